@@ -1,0 +1,10 @@
+pub mod Single
+pub mod Tests
+pub mod ListLaws
+pub mod GreatestLaws
+pub mod Halves
+pub mod Parts
+pub mod Expressions
+pub mod Machine
+pub mod Polynomials
+pub mod SumLaws

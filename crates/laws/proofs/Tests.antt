@@ -1,0 +1,62 @@
+-- Tests as Booleans, and the facts that they stand for.
+use mathlib.Core.Path.{_≡_, refl, sym, subst}
+use mathlib.Core.Logic.{_⊎_, inl, inr}
+use mathlib.Core.Bool.{Bool, true, false, cond, not, _&&_, false≢true}
+use lib.Dec.{T}
+
+-- ---- a test that holds, as T and as an equation
+
+pub holds-true : (t : Bool) → T t → t ≡ true
+holds-true true h = refl
+holds-true false h = absurd h
+
+pub true-holds : {t : Bool} → t ≡ true → T t
+true-holds e = subst T (sym e) tt
+
+-- ---- a choice by the value of its test
+
+module _ {A : Type 0} (a b : A) where
+  pub choice-true : {t : Bool} → t ≡ true → cond t a b ≡ a
+  choice-true e = rw e
+
+  pub choice-false : {t : Bool} → t ≡ false → cond t a b ≡ b
+  choice-false e = rw e
+
+-- ---- negation: what a test's value makes of it
+
+pub negation-true : {t : Bool} → t ≡ false → not t ≡ true
+negation-true e = rw e
+
+pub negation-false : {t : Bool} → t ≡ true → not t ≡ false
+negation-false e = rw e
+
+-- ---- conjunction, to and from its parts
+
+pub both-true : {s t : Bool} → s ≡ true → t ≡ true → (s && t) ≡ true
+both-true e f = rw (e, f)
+
+pub first-true : (s t : Bool) → (s && t) ≡ true → s ≡ true
+first-true true t e = refl
+first-true false t e = e
+
+pub second-true : (s t : Bool) → (s && t) ≡ true → t ≡ true
+second-true true t e = e
+second-true false t e = absurd (false≢true e)
+
+pub first-fails : {s : Bool} (t : Bool) → s ≡ false → (s && t) ≡ false
+first-fails t e = rw e
+
+pub second-fails : (s : Bool) {t : Bool} → t ≡ false → (s && t) ≡ false
+second-fails true e = e
+second-fails false e = refl
+
+pub one-fails : (s t : Bool) → (s && t) ≡ false → (s ≡ false) ⊎ (t ≡ false)
+one-fails true t e = inr e
+one-fails false t e = inl refl
+
+-- ---- two tests that hold of the same are equal
+
+pub tests-agree : (s t : Bool) → (s ≡ true → t ≡ true) → (t ≡ true → s ≡ true) → s ≡ t
+tests-agree true t there back = sym (there refl)
+tests-agree false true there back = back refl
+tests-agree false false there back = refl

@@ -1,0 +1,3 @@
+pub mod Sums
+pub mod Lists
+pub mod Greatest
