@@ -1,0 +1,7 @@
+pub mod Limbs
+pub mod Carries
+pub mod WideLaws
+pub mod ThreeWordLaws
+pub mod Divisions
+pub mod Roots
+pub mod Unique
