@@ -1,0 +1,12 @@
+// Bytes and numbers to standard output.
+use libc::STDOUT_FILENO;
+
+// Bytes as they stand.
+pub fn text(bytes: &[u8]) {
+    io::write_all(STDOUT_FILENO, bytes);
+}
+
+// A number in decimal digits.
+pub fn number(n: u64) {
+    io::print_decimal(STDOUT_FILENO, n);
+}

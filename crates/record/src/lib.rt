@@ -1,0 +1,124 @@
+// The limits of records, the refusal numbers, and the checks of a record that entries share. Sums, files and the meter are left to others.
+ghost use mathlib.Core.Path.{_≡_};
+ghost use Rattle.record.specs.Refusals.{inRange, rangeRefusal, sizeRefusal, recordRefusal};
+
+// A phase sample lies within this many picoseconds either way: 2^40.
+pub const LARGEST_SAMPLE: i64 = 1099511627776;
+// A frequency value lies within this many picoseconds either way: 2^41.
+pub const LARGEST_FREQUENCY: i64 = 2199023255552;
+// The most samples of a record.
+pub const MOST_SAMPLES: u64 = 32768;
+// The most readings of a frequency record.
+pub const MOST_READINGS: u64 = 32767;
+// The largest factor m.
+pub const LARGEST_FACTOR: u16 = 10922;
+
+// Too few samples, or a count of 0.
+pub const TOO_FEW: u64 = 1;
+// Too many samples, readings or counts.
+pub const TOO_MANY: u64 = 2;
+// A value outside its range, at the index of the first.
+pub const OUT_OF_RANGE: u64 = 3;
+// A float reading that is not whole, or not a number.
+pub const NOT_WHOLE: u64 = 4;
+// A factor outside its range.
+pub const BAD_FACTOR: u64 = 5;
+// A lent buffer that is too short.
+pub const NO_ROOM: u64 = 6;
+// A meter that does not hold together.
+pub const BAD_METER: u64 = 7;
+// A deviation of nought where a ratio or a bar is asked.
+pub const NO_DEVIATION: u64 = 8;
+// Bad bytes or a bad length of a file.
+pub const BAD_FILE: u64 = 9;
+
+// What is refused and where; number 0 refuses nothing.
+pub struct Refusal {
+    pub number: u64,
+    pub place: u64,
+}
+
+// What an entry asks of a record at factor m: m from 1 to the largest, and each * m + besides samples or more.
+pub struct Demand {
+    pub largest: u16,
+    pub each: u16,
+    pub besides: u16,
+}
+
+// Whether a phase sample lies in its range.
+pub fn in_range(x: i64) -> bool
+    ensures { λ r. ⌜ r ≡ inRange x ⌝ }
+{
+    if x < -LARGEST_SAMPLE {
+        return false;
+    }
+    x <= LARGEST_SAMPLE
+}
+
+// 3 at the first sample outside its range.
+pub fn range_refusal(samples: &[i64]) -> Refusal
+    ensures { λ r. ⌜ r ≡ rangeRefusal (now (samples .entry)) ⌝ }
+{
+    let mut i: usize = 0;
+    while i < samples.len() {
+        if in_range(samples[i]) {
+            i += 1;
+        } else {
+            return Refusal {
+                number: OUT_OF_RANGE,
+                place: i as u64,
+            };
+        }
+    }
+    Refusal {
+        number: 0,
+        place: 0,
+    }
+}
+
+// 5, 2, 1: what the factor m and the number n of samples alone refuse.
+pub fn size_refusal(demand: Demand, m: u64, n: u64) -> Refusal
+    ensures { λ r. ⌜ r ≡ sizeRefusal demand m n ⌝ }
+{
+    let largest = demand.largest as u64;
+    if m < 1 {
+        return Refusal {
+            number: BAD_FACTOR,
+            place: 0,
+        };
+    }
+    if largest < m {
+        return Refusal {
+            number: BAD_FACTOR,
+            place: 0,
+        };
+    }
+    if MOST_SAMPLES < n {
+        return Refusal {
+            number: TOO_MANY,
+            place: 0,
+        };
+    }
+    if n < demand.each as u64 * m + demand.besides as u64 {
+        return Refusal {
+            number: TOO_FEW,
+            place: 0,
+        };
+    }
+    Refusal {
+        number: 0,
+        place: 0,
+    }
+}
+
+// 5, 2, 1, then 3 at the lowest index: the check of a record.
+pub fn record_refusal(demand: Demand, m: u64, samples: &[i64]) -> Refusal
+    ensures { λ r. ⌜ r ≡ recordRefusal demand m (now (samples .entry)) ⌝ }
+{
+    let size = size_refusal(demand, m, samples.len() as u64);
+    let number = size.number;
+    if number != 0 {
+        return size;
+    }
+    range_refusal(samples)
+}
