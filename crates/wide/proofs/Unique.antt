@@ -11,6 +11,10 @@ use Rattle.wide.proofs.product_low.Reads as product-low
 use Rattle.wide.proofs.product_low.Kinds as product-low-kinds
 use Rattle.wide.proofs.product.Reads as product
 use Rattle.wide.proofs.product.Kinds as product-kinds
+use Rattle.wide.proofs.size.Reads as size
+use Rattle.wide.proofs.size.Kinds as size-kinds
+use Rattle.wide.proofs.with_square.Reads as with-square
+use Rattle.wide.proofs.with_square.Kinds as with-square-kinds
 use Rattle.wide.proofs.divided.Reads as divided
 use Rattle.wide.proofs.divided.Kinds as divided-kinds
 use Rattle.wide.proofs.root.Reads as root
@@ -32,6 +36,12 @@ product-low-single κs args z z′ w w′ first second = (first ∙ sym second, 
 
 pub product-single : Single 0 product-kinds.ps product-kinds.r product.Post
 product-single κs args z z′ w w′ first second = (first ∙ sym second, refl)
+
+pub size-single : Single 0 size-kinds.ps size-kinds.r size.Post
+size-single κs args z z′ w w′ first second = (first ∙ sym second, refl)
+
+pub with-square-single : Single 0 with-square-kinds.ps with-square-kinds.r with-square.Post
+with-square-single κs args z z′ w w′ first second = (first ∙ sym second, refl)
 
 pub divided-single : Single 0 divided-kinds.ps divided-kinds.r divided.Post
 divided-single κs args z z′ w w′ first second = (first ∙ sym second, refl)

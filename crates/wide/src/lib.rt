@@ -1,5 +1,5 @@
-// Whole numbers of 128 bits as two halves of 64 bits: what sums of squares, their fractions and their roots are worked in. Signs, ranges and
-// refusals are left to the crates above.
+// Whole numbers of 128 bits as two halves of 64 bits: what sums of squares, their fractions and their roots are worked in. Ranges and refusals are
+// left to the crates above.
 mod long_division;
 mod three_words;
 
@@ -7,6 +7,8 @@ ghost use mathlib.Core.Path.{_≡_};
 ghost use mathlib.Core.Bool.{cond};
 ghost use Prim.Native.Nat.{_+_, _*_, _/_, _%_, _^_, _<_};
 ghost use lib.Dec.{leb};
+ghost use lib.IntN.{natAbs};
+ghost use Rattle.laws.specs.Sums.{square};
 ghost use Rattle.wide.specs.Wide.{value, halves, wideSum, divisionOf, squareRoot};
 
 // hi * 2^64 + lo.
@@ -80,6 +82,24 @@ pub fn product(x: u64, y: u64) -> Wide
     let high = product_high(x, y);
     let low = product_low(x, y);
     Wide { hi: high, lo: low }
+}
+
+// How far a signed number is from nought.
+pub fn size(z: i64) -> u64
+    ensures { λ r. ⌜ r ≡ natAbs z ⌝ }
+{
+    if z < 0 {
+        return (0 - (z + 1)) as u64 + 1;
+    }
+    z as u64
+}
+
+// A sum with the square of a signed number more, modulo 2^128.
+pub fn with_square(total: Wide, z: i64) -> Wide
+    ensures { λ r. ⌜ r ≡ wideSum total (halves (square z)) ⌝ }
+{
+    let side = size(z);
+    sum(total, product(side, side))
 }
 
 // What a division answers: where the divisor is nought, `defined` is false and the numbers are noughts.
