@@ -1,5 +1,5 @@
 -- The greatest number that passes a test: there is one at most, and bit by bit it is found.
-use mathlib.Core.Path.{_≡_, refl, sym, ap, subst}
+use mathlib.Core.Path.{_≡_, refl, sym, ap, subst, _∙_}
 use mathlib.Core.Bool.{Bool, true, false, cond}
 use Prim.Native.Nat.{ℕ, zero, suc, _+_, _-_, _^_, _≤_, _<_}
 use native.Mathlib.Decide.{decLe}
@@ -56,3 +56,20 @@ module _ (k : ℕ) (some : 0 < k) where
   pub chosen-room : (t : Bool) (base limit : ℕ) → base + 2 ^ k ≤ limit → cond t (base + 2 ^ (k - 1)) base + 2 ^ (k - 1) ≤ limit
   chosen-room true base limit room = omega (arith, power-doubles k some)
   chosen-room false base limit room = omega (arith, power-doubles k some)
+
+-- ---- one turn of a loop over the bits: `bit` is 2^(left-1), and `next` is what is kept
+module _
+    (test : ℕ → Bool) (left : ℕ) (some : 0 < left) (r : ℕ) {bit next : ℕ}
+    (bit-is : bit ≡ 2 ^ (left - 1)) (next-is : next ≡ cond (test (r + bit)) (r + bit) r) where
+  kept : next ≡ cond (test (r + 2 ^ (left - 1))) (r + 2 ^ (left - 1)) r
+  kept = next-is ∙ ap (λ (u : ℕ). cond (test (r + u)) (r + u) r) bit-is
+
+  pub turn-leaves-room : (limit : ℕ) → r + 2 ^ left ≤ limit → next + 2 ^ (left - 1) ≤ limit
+  turn-leaves-room limit room = rw kept (chosen-room left some (test (r + 2 ^ (left - 1))) r limit room)
+
+  pub turn-keeps-bits : bitByBit test (left - 1) next ≡ bitByBit test left r
+  turn-keeps-bits = ap (bitByBit test (left - 1)) kept ∙ sym (next-bit left some test r)
+
+pub no-bits-left : (test : ℕ → Bool) (left r : ℕ) → left ≡ 0 → r ≡ bitByBit test left r
+unfolding bitByBit
+no-bits-left test left r none = sym (ap (λ (t : ℕ). bitByBit test t r) none)

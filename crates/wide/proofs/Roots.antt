@@ -6,8 +6,8 @@ use native.Mathlib.Nat.{le-trans, not-le-of-lt, mod-eq-of-lt, mul-le-mul, one-mu
 use native.Mathlib.Omega.{arith}
 use lib.Dec.{leb, leb→le, le→leb}
 use lib.Pow.{pow-pos, pow-lt}
-use Rattle.laws.specs.Greatest.{Greatest, bitByBit}
-use Rattle.laws.proofs.GreatestLaws.{greatest-is, next-bit, chosen-room}
+use Rattle.laws.specs.Greatest.{Greatest}
+use Rattle.laws.proofs.GreatestLaws.{greatest-is}
 use Rattle.laws.proofs.Halves.{power-doubles}
 use Rattle.wide.specs.Wide.{value, halves, squareRoot}
 use Rattle.wide.specs.declared.Wide.{Wide}
@@ -40,18 +40,8 @@ module _ (left : ℕ) (some : 0 < left) (within : left ≤ 64) where
   abbrev pub bit : ℕ
   bit = 1 * 2 ^ (left - 1) % 2 ^ 64
 
-  bit-is : bit ≡ 2 ^ (left - 1)
+  pub bit-is : bit ≡ 2 ^ (left - 1)
   bit-is = bit-of-word 64 (left - 1) (omega arith)
 
   pub bit-fits : (r : ℕ) → r + 2 ^ left ≤ 2 ^ 64 → r + bit < 2 ^ 64
   bit-fits r room = omega (arith, bit-is, power-doubles left some, pow-pos (left - 1))
-
-  module _ (n r next : ℕ) (next-is : next ≡ cond (squareWithin n (r + bit)) (r + bit) r) where
-    chosen : next ≡ cond (squareWithin n (r + 2 ^ (left - 1))) (r + 2 ^ (left - 1)) r
-    chosen = next-is ∙ ap (λ (u : ℕ). cond (squareWithin n (r + u)) (r + u) r) bit-is
-
-    pub room-left : r + 2 ^ left ≤ 2 ^ 64 → next + 2 ^ (left - 1) ≤ 2 ^ 64
-    room-left room = rw chosen (chosen-room left some (squareWithin n (r + 2 ^ (left - 1))) r (2 ^ 64) room)
-
-    pub bits-left : bitByBit (squareWithin n) (left - 1) next ≡ bitByBit (squareWithin n) left r
-    bits-left = ap (bitByBit (squareWithin n) (left - 1)) chosen ∙ sym (next-bit left some (squareWithin n) r)

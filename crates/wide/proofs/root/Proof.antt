@@ -1,9 +1,11 @@
-use mathlib.Core.Path.{_≡_, refl, ap, _∙_}
-use Prim.Native.Nat.{ℕ, _+_, _^_, _≤_}
+-- `wide::root` meets its contract. The loop's invariant: `r` leaves room for the bits below 2^left, and with them it is the root.
+use mathlib.Core.Path.{_≡_, refl, _∙_}
+use Prim.Native.Nat.{_+_, _^_, _≤_}
 use native.Mathlib.Omega.{arith}
 use Rattle.laws.specs.Greatest.{bitByBit}
 use Rattle.wide.specs.Wide.{value, squareRoot}
-use Rattle.wide.proofs.Roots.{squareWithin, bit-fits, room-left, bits-left}
+use Rattle.laws.proofs.GreatestLaws.{turn-leaves-room, turn-keeps-bits, no-bits-left}
+use Rattle.wide.proofs.Roots.{squareWithin, bit-is, bit-fits}
 use Rattle.wide.proofs.root.Statement.{statement}
 use Rattle.wide.proofs.root.Tie as tie
 
@@ -35,18 +37,17 @@ loop-less c = omega arith
 loop-again : tie.Need-loop-again Inv-loop μ-loop
 loop-again c =
     let h = c .before .before .loop in
-    let n = value (c .before .before .before .args .a) in (
+    let test = squareWithin (value (c .before .before .before .args .a)) in
+    let made = bit-is (h .left) (omega arith) (h .inv .0) in (
       omega arith,
-      room-left (h .left) (omega arith) (h .inv .0) n (h .r) (c .with-bit .result) (c .with-bit .ensures) (h .inv .1),
-      bits-left (h .left) (omega arith) (h .inv .0) n (h .r) (c .with-bit .result) (c .with-bit .ensures) ∙ h .inv .2,
+      turn-leaves-room test (h .left) (omega arith) (h .r) made (c .with-bit .ensures) (2 ^ 64) (h .inv .1),
+      turn-keeps-bits test (h .left) (omega arith) (h .r) made (c .with-bit .ensures) ∙ h .inv .2,
     )
 
 returns : tie.Need-returns Inv-loop μ-loop
-unfolding bitByBit
 returns c =
     let h = c .before .loop in
-    let none : 0 ≡ h .left = omega arith in
-    ap (λ (t : ℕ). bitByBit (squareWithin (value (c .before .before .args .a))) t (h .r)) none ∙ h .inv .2
+    no-bits-left (squareWithin (value (c .before .before .args .a))) (h .left) (h .r) (omega arith) ∙ h .inv .2
 
 pub root-spec : {M : Type 1} → statement M
 root-spec =

@@ -1,0 +1,150 @@
+-- What the code of the sums asks of a record that was checked: each signed result fits a word, and one turn of each loop adds one term.
+use mathlib.Core.Path.{_≡_, sym, ap, _∙_}
+use mathlib.Core.List.{List}
+use Prim.Native.Nat.{ℕ, _+_, _*_, _^_, _≤_, _<_}
+use native.Mathlib.Omega.{arith}
+use lib.IntN.{ℤ, pos, natAbs}
+use lib.ListN.{length}
+use mir.Syntax.{w64}
+use mir.Val.{ofZ, toZ}
+use Rattle.laws.specs.Sums.{sum, square}
+use Rattle.laws.specs.Lists.{at}
+use Rattle.laws.proofs.ListLaws.{none-fails}
+use Rattle.laws.proofs.SumLaws.{sum-step}
+use Rattle.laws.proofs.Parts.{size-is, small-fits}
+use Rattle.laws.proofs.Expressions.{Expression, _∋_, _⊕_, _⊖_}
+use Rattle.laws.proofs.Machine.{Fit, machine, result, read-back, machine-is, result-is}
+use Rattle.wide.specs.Wide.{halves, wideSum}
+use Rattle.wide.specs.declared.Wide.{Wide}
+use Rattle.wide.proofs.WideLaws.{sum-grows}
+use Rattle.record.specs.Refusals.{none, inRange, rangeRefusal, recordRefusal}
+use Rattle.record.specs.declared.Refusal.{Refusal}
+use Rattle.record.specs.declared.Demand.{Demand}
+use Rattle.record.proofs.RefusalLaws.{none-sound, Sound, all-in-range, unrefused-in-range, in-range-bounded}
+use Rattle.sums.specs.Published.{difference, windowSum}
+use Rattle.sums.specs.Answers.{allanDemand, modifiedDemand}
+use Rattle.sums.proofs.PublishedLaws.{differenceOf, difference-means, allanSoFar, firstSoFar, modifiedSoFar, first-step, first-within, first-window-is, window-slides-on, difference-within, difference-fits-word, window-within, window-fits-word, allan-so-far-below, modified-so-far-below}
+
+-- a record that is not refused has no sample out of range
+pub record-in-range : (d : Demand) (m : ℕ) (xs : List ℤ) → recordRefusal d m xs ≡ none → rangeRefusal xs ≡ none
+record-in-range d m xs e = all-in-range xs (none-fails inRange (pos 0) xs (none-sound d m xs e .in-range))
+
+pub range-bounded : (xs : List ℤ) → rangeRefusal xs ≡ none → (k : ℕ) → natAbs (at xs k) ≤ 2 ^ 40
+range-bounded xs e = in-range-bounded xs (unrefused-in-range xs (ap (λ (r : Refusal). r .number) e))
+
+-- ---- a second difference
+module _ (m : ℕ) (xs : List ℤ) (i : ℕ) (unrefused : rangeRefusal xs ≡ none) where
+  pub difference-fits : Fit w64 (differenceOf m xs i)
+  difference-fits =
+      let bounded = range-bounded xs unrefused in
+      omega (arith, bounded i, bounded (i + m), bounded (i + 2 * m), size-is (at xs i), size-is (at xs (i + m)), size-is (at xs (i + 2 * m)))
+
+  pub difference-is : machine w64 (differenceOf m xs i) ≡ difference m xs i
+  difference-is = machine-is w64 (differenceOf m xs i) difference-fits ∙ difference-means m xs i
+
+-- ---- squares in two halves
+
+-- what a call reads of a number that another gave
+abbrev pub read : ℤ → ℤ
+read y = toZ w64 (ofZ w64 y)
+
+-- a running sum of squares takes in one more
+pub square-taken-in :
+    (f : ℕ → ℤ) (n : ℕ) → natAbs (f n) ≤ 2 ^ 62 → sum (n + 1) (λ i. square (f i)) < 2 ^ 126 → {total next : Wide} {y : ℤ} →
+    total ≡ halves (sum n (λ i. square (f i))) → y ≡ f n → next ≡ wideSum total (halves (square (read y))) → next ≡ halves (sum (n + 1) (λ i. square (f i)))
+square-taken-in f n small below {y = y} total-is y-is next-is =
+    let more : sum (n + 1) (λ i. square (f i)) ≡ sum n (λ i. square (f i)) + square (f n) = sum-step n (λ i. square (f i)) in
+    let read-is : read y ≡ f n = read-back y-is (small-fits (f n) (omega arith)) in
+    sum-grows (sum n (λ i. square (f i))) (square (f n)) total-is (ap (λ (t : ℤ). halves (square t)) read-is) next-is (rw more at below)
+    ∙ ap halves (sym more)
+
+-- ---- one turn of each loop
+
+module _ (m : ℕ) (xs : List ℤ) (unrefused : recordRefusal allanDemand m xs ≡ none) (i : ℕ) (i-below : i < length xs)
+    {total : Wide} {y : ℤ} (total-is : total ≡ halves (allanSoFar m xs i)) (y-is : y ≡ difference m xs i) where
+  allan-sound : Sound allanDemand m xs
+  allan-sound = none-sound allanDemand m xs unrefused
+
+  difference-small : natAbs (difference m xs i) ≤ 2 ^ 62
+  difference-small = difference-fits-word m xs (allan-sound .bounded) i
+
+  allan-below : allanSoFar m xs (i + 1) < 2 ^ 126
+  allan-below = allan-so-far-below m xs (allan-sound .bounded) (i + 1) (omega (arith, allan-sound .not-too-many))
+
+  pub allan-grows : {next : Wide} → next ≡ wideSum total (halves (square (read y))) → next ≡ halves (allanSoFar m xs (i + 1))
+  allan-grows = square-taken-in (difference m xs) i difference-small allan-below total-is y-is
+
+module _ (m : ℕ) (xs : List ℤ) (unrefused : recordRefusal modifiedDemand m xs ≡ none) (j : ℕ) (j-below : j + 3 * m ≤ length xs)
+    {total : Wide} {y : ℤ} (total-is : total ≡ halves (modifiedSoFar m xs j)) (y-is : y ≡ windowSum m xs j) where
+  modified-sound : Sound modifiedDemand m xs
+  modified-sound = none-sound modifiedDemand m xs unrefused
+
+  window-small : natAbs (windowSum m xs j) ≤ 2 ^ 62
+  window-small = window-fits-word m xs (modified-sound .bounded) (modified-sound .factor-most) j
+
+  modified-below : modifiedSoFar m xs (j + 1) < 2 ^ 126
+  modified-below = modified-so-far-below m xs (modified-sound .bounded) (modified-sound .factor-most) (j + 1) (omega (arith, modified-sound .not-too-many, modified-sound .factor-least))
+
+  pub modified-grows : {next : Wide} → next ≡ wideSum total (halves (square (read y))) → next ≡ halves (modifiedSoFar m xs (j + 1))
+  modified-grows = square-taken-in (windowSum m xs) j window-small modified-below total-is y-is
+
+-- ---- the window: s is its bits, or w itself, and y and z are second differences that calls gave
+abbrev pub grown : ℕ → List ℤ → ℕ → ℕ → ℤ → Expression
+grown m xs i s y = s ∋ firstSoFar m xs i ⊕ ofZ w64 y ∋ difference m xs i
+
+abbrev pub moved : ℕ → List ℤ → ℕ → ℤ → ℤ → ℤ → Expression
+moved m xs j w y z = ofZ w64 w ∋ windowSum m xs j ⊕ ofZ w64 y ∋ difference m xs (j + m) ⊖ ofZ w64 z ∋ difference m xs j
+
+module _ (m : ℕ) (xs : List ℤ) (unrefused : recordRefusal modifiedDemand m xs ≡ none) where
+  abbrev record-sound : Sound modifiedDemand m xs
+  record-sound = none-sound modifiedDemand m xs unrefused
+
+  module _ (i s : ℕ) (i-below : i ≤ m) (s-is : s ≡ ofZ w64 (firstSoFar m xs i)) where
+    small : natAbs (firstSoFar m xs i) ≤ 2 ^ 56
+    small = omega (arith, record-sound .factor-most, first-within m xs (record-sound .bounded) i)
+
+    pub first-grows-fits : {y : ℤ} → y ≡ difference m xs i → Fit w64 (grown m xs i s y)
+    first-grows-fits y-is =
+        omega (
+          arith,
+          ap (ofZ w64) y-is,
+          small,
+          difference-within m xs (record-sound .bounded) i,
+          size-is (firstSoFar m xs i),
+          size-is (difference m xs i),
+        )
+
+    pub first-grows : {y : ℤ} → y ≡ difference m xs i → ofZ w64 (result w64 (grown m xs i s y)) ≡ ofZ w64 (firstSoFar m xs (i + 1))
+    first-grows {y} y-is = ap (ofZ w64) (result-is w64 (grown m xs i s y) (first-grows-fits y-is) ∙ sym (first-step m xs i))
+
+    pub first-grown : i ≡ m → toZ w64 s ≡ windowSum m xs 0
+    first-grown whole =
+        machine-is w64 (s ∋ firstSoFar m xs i) (s-is, small-fits (firstSoFar m xs i) (omega (arith, small)))
+        ∙ ap (firstSoFar m xs) whole
+        ∙ first-window-is m xs
+
+  -- what is read of the window's bits
+  pub window-read : (j s : ℕ) → s ≡ ofZ w64 (windowSum m xs j) → toZ w64 s ≡ windowSum m xs j
+  window-read j s s-is =
+      machine-is w64 (s ∋ windowSum m xs j)
+      (s-is, small-fits (windowSum m xs j) (omega (arith, window-fits-word m xs (record-sound .bounded) (record-sound .factor-most) j)))
+
+  module _ (j : ℕ) {w y z : ℤ} (w-is : w ≡ windowSum m xs j) (y-is : y ≡ difference m xs (j + m)) (z-is : z ≡ difference m xs j) where
+    pub window-moves-fits : Fit w64 (moved m xs j w y z)
+    window-moves-fits =
+        omega (
+          arith,
+          ap (ofZ w64) w-is,
+          ap (ofZ w64) y-is,
+          ap (ofZ w64) z-is,
+          record-sound .factor-most,
+          window-within m xs (record-sound .bounded) j,
+          difference-within m xs (record-sound .bounded) (j + m),
+          difference-within m xs (record-sound .bounded) j,
+          size-is (windowSum m xs j),
+          size-is (difference m xs (j + m)),
+          size-is (difference m xs j),
+        )
+
+    pub window-moves : machine w64 (moved m xs j w y z) ≡ windowSum m xs (j + 1)
+    window-moves = machine-is w64 (moved m xs j w y z) window-moves-fits ∙ sym (window-slides-on m xs j)

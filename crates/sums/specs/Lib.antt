@@ -1,0 +1,4 @@
+pub mod Published
+pub mod Fractions
+pub mod Deviations
+pub mod Answers
