@@ -1,16 +1,41 @@
--- The first entry that fails a test, and a buffer that is written from its front.
-use mathlib.Core.Path.{_≡_, refl, sym, _∙_}
+-- A list by its entries, the first entry that fails a test, and a buffer that is written from its front.
+use mathlib.Core.Path.{_≡_, refl, sym, ap, ap₂, _∙_}
 use mathlib.Core.Bool.{Bool, true, false, cond, true≢false}
 use mathlib.Core.List.{List, [], _∷_, _++_}
-use Prim.Native.Nat.{ℕ, zero, suc, _+_, _≤_, _<_}
+use Prim.Native.Nat.{ℕ, zero, suc, _+_, _-_, _≤_, _<_}
 use native.Mathlib.Nat.{add-zero, le-of-lt}
 use native.Mathlib.Numerals.{add-one}
 use native.Mathlib.Omega.{arith}
 use borrow.Author.Count.{below-more}
-use lib.ListN.{length, getD, take, drop, set, length-append, length-drop}
-use lib.Seq.{drop-cons, drop-length, length-take-le, take-length, take-suc, append-snoc, set-at, getD-set-same, getD-set-other}
-use Rattle.laws.specs.Lists.{firstFailing, written}
+use lib.ListN.{length, getD, take, drop, set, length-append, length-drop, List·getD-append}
+use lib.Seq.{drop-cons, drop-length, length-take-le, take-length, take-suc, append-snoc, set-at, getD-set-same, getD-set-other, getD-append-add, getD-drop}
+use Rattle.laws.specs.Lists.{tabulate, firstFailing, written}
 use Rattle.laws.proofs.Tests.{choice-true, choice-false}
+
+-- ---- a list by its entries
+
+pub tabulate-length : {A : Type 0} (n : ℕ) (f : ℕ → A) → length (tabulate n f) ≡ n
+unfolding tabulate
+tabulate-length zero f = refl
+tabulate-length (suc n) f = ap suc (tabulate-length n (λ i. f (suc i)))
+
+pub tabulate-entry : {A : Type 0} (n : ℕ) (f : ℕ → A) (z : A) (i : ℕ) → i < n → getD (tabulate n f) i z ≡ f i
+unfolding tabulate
+tabulate-entry zero f z i h = absurd (omega arith)
+tabulate-entry (suc n) f z zero h = refl
+tabulate-entry (suc n) f z (suc i) h = tabulate-entry n (λ k. f (suc k)) z i (omega arith)
+
+-- two lists by their entries are equal where the entries are
+pub tabulate-equal : {A : Type 0} (n : ℕ) (f g : ℕ → A) → ((i : ℕ) → i < n → f i ≡ g i) → tabulate n f ≡ tabulate n g
+unfolding tabulate
+tabulate-equal zero f g h = refl
+tabulate-equal (suc n) f g h = ap₂ _∷_ (h 0 (omega arith)) (tabulate-equal n (λ i. f (suc i)) (λ i. g (suc i)) (λ i k. h (suc i) (omega arith)))
+
+-- a list is the list of its entries
+pub tabulate-of : {A : Type 0} (xs : List A) (z : A) → tabulate (length xs) (λ i. getD xs i z) ≡ xs
+unfolding tabulate
+tabulate-of [] z = refl
+tabulate-of (x ∷ xs) z = ap (λ t. x ∷ t) (tabulate-of xs z)
 
 -- ---- the first entry that fails a test
 
@@ -102,6 +127,15 @@ module _ {A : Type 0} (out buffer : List A) where
 
   pub written-length : length out ≤ length buffer → length (written out buffer) ≡ length buffer
   written-length h = omega (arith, length-append out (drop (length out) buffer), length-drop (length out) buffer)
+
+  pub written-front : (i : ℕ) (z : A) → i < length out → getD (written out buffer) i z ≡ getD out i z
+  written-front i z h = List·getD-append out (drop (length out) buffer) z i h
+
+  -- the entries past the output are as they were
+  pub written-past : (i : ℕ) (z : A) → length out ≤ i → getD (written out buffer) i z ≡ getD buffer i z
+  written-past i z h =
+      let beyond : i ≡ length out + (i - length out) = omega arith in
+      rw (beyond, getD-append-add out (drop (length out) buffer) (i - length out) z, getD-drop (length out) buffer (i - length out) z)
 
 -- ---- a list whose entries below i are as they have to be, and entry i is stored
 

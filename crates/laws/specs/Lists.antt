@@ -1,5 +1,5 @@
--- Lists as lent records and buffers: an entry, the first entry that fails a test, a buffer with an output at its front.
-use Prim.Native.Nat.{ℕ, suc}
+-- Lists as lent records and buffers: an entry, a list by its entries, the first entry that fails a test, a buffer with an output at its front.
+use Prim.Native.Nat.{ℕ, zero, suc}
 use mathlib.Core.Bool.{Bool, cond}
 use mathlib.Core.List.{List, [], _∷_, _++_}
 use lib.IntN.{ℤ, pos}
@@ -8,6 +8,11 @@ use lib.ListN.{length, drop, getD}
 -- x_i; nought past the end, which no formula reaches
 abbrev pub at : List ℤ → ℕ → ℤ
 at xs i = getD xs i (pos 0)
+
+-- f 0, f 1, .. f (n - 1)
+unfoldable pub tabulate : {A : Type 0} → ℕ → (ℕ → A) → List A
+tabulate zero f = []
+tabulate (suc n) f = f 0 ∷ tabulate n (λ i. f (suc i))
 
 -- the index of the first entry that fails the test; the length where none fails
 unfoldable pub firstFailing : {A : Type 0} → (A → Bool) → List A → ℕ

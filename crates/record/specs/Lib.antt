@@ -1,1 +1,4 @@
 pub mod Refusals
+pub mod Answers
+pub mod Frequency
+pub mod Drift

@@ -1,4 +1,8 @@
-// The limits of records, the refusal numbers, and the checks of a record that entries share. Sums, files and the meter are left to others.
+// The limits of records, the refusal numbers and the checks that entries share; phase from frequency and back; drift. Sums, files and the meter
+// are left to others.
+pub mod drift;
+pub mod frequency;
+
 ghost use mathlib.Core.Path.{_≡_};
 ghost use Rattle.record.specs.Refusals.{inRange, rangeRefusal, sizeRefusal, recordRefusal};
 
@@ -36,6 +40,14 @@ pub const BAD_FILE: u64 = 9;
 pub struct Refusal {
     pub number: u64,
     pub place: u64,
+}
+
+// What an entry that fills a lent buffer answers: how many entries it wrote.
+#[repr(C)]
+pub struct CountAnswer {
+    pub number: u64,
+    pub place: u64,
+    pub count: u64,
 }
 
 // What an entry asks of a record at factor m: m from 1 to the largest, and each * m + besides samples or more.
@@ -121,4 +133,15 @@ pub fn record_refusal(demand: Demand, m: u64, samples: &[i64]) -> Refusal
         return size;
     }
     range_refusal(samples)
+}
+
+// Nought beside a refusal.
+pub(crate) fn refused_count(number: u64, place: u64) -> CountAnswer
+    ensures { λ r. ⌜ r ≡ record { number = number; place = place; count = 0 } ⌝ }
+{
+    CountAnswer {
+        number,
+        place,
+        count: 0,
+    }
 }

@@ -8,3 +8,4 @@ pub mod Unique
 pub mod Shifted
 pub mod Variances
 pub mod Bounds
+pub mod Drifts

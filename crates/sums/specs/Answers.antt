@@ -1,7 +1,7 @@
 -- What each entry answers, refusals too: noughts beside every refusal.
 use mathlib.Core.Bool.{Bool, cond, not, _&&_}
 use mathlib.Core.List.{List}
-use Prim.Native.Nat.{ℕ, _*_, _/_, _%_, _^_}
+use Prim.Native.Nat.{ℕ, _/_, _%_, _^_}
 use lib.Dec.{leb, ltb, eqb}
 use lib.IntN.{ℤ}
 use Rattle.record.specs.Refusals.{refusedIf, _then_, recordRefusal}
@@ -11,6 +11,7 @@ use Rattle.sums.specs.Published.{allanSum, allanCount, modifiedSum, modi
 use Rattle.sums.specs.Fractions.{Fraction, lowestTerms}
 use Rattle.sums.specs.Deviations.{deviation}
 use Rattle.sums.specs.declared.SumAnswer.{SumAnswer}
+use Rattle.sums.specs.declared.Part.{Part}
 use Rattle.sums.specs.declared.FractionAnswer.{FractionAnswer}
 use Rattle.sums.specs.declared.DeviationAnswer.{DeviationAnswer}
 
@@ -27,6 +28,17 @@ sumAnswer r s count =
     cond (eqb (r .number) 0)
     (record { number = 0; place = 0; high = s / 2 ^ 64; low = s % 2 ^ 64; count = count })
     (record { number = r .number; place = r .place; high = 0; low = 0; count = 0 })
+
+-- a sum as a part of an answer: in two halves with its count, or 1 and noughts where it is not due
+unfoldable pub partOf : Bool → ℕ → ℕ → Part
+partOf due s count =
+    cond due
+    (record { number = 0; high = s / 2 ^ 64; low = s % 2 ^ 64; count = count })
+    (record { number = 1; high = 0; low = 0; count = 0 })
+
+-- a part of an answer that is refused as a whole: noughts
+unfoldable pub noPart : Part
+noPart = record { number = 0; high = 0; low = 0; count = 0 }
 
 -- Allan sum: 5, 2, 1, then 3 at the lowest index
 unfoldable pub allanSumAnswer : ℕ → List ℤ → SumAnswer

@@ -36,6 +36,15 @@ pub struct SumAnswer {
     pub count: u64,
 }
 
+// One sum with its count as a part of an answer; its own number is 1 where it is not due.
+#[repr(C)]
+pub struct Part {
+    pub number: u64,
+    pub high: u64,
+    pub low: u64,
+    pub count: u64,
+}
+
 // A fraction in lowest terms, its numerator in two halves.
 #[repr(C)]
 pub struct FractionAnswer {

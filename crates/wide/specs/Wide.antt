@@ -1,5 +1,5 @@
 -- What a number in two halves stands for, and what each function answers, over plain naturals.
-use mathlib.Core.Bool.{Bool, true, false, cond}
+use mathlib.Core.Bool.{true, false, cond}
 use Prim.Native.Nat.{ℕ, _+_, _*_, _/_, _%_, _^_}
 use lib.Dec.{leb, eqb}
 use Rattle.laws.specs.Greatest.{greatest}

@@ -1,6 +1,6 @@
 // Division by a word, a bit of the dividend at a time. The remainder stays below the divisor, so that no step needs a 65th bit.
 ghost use mathlib.Core.Path.{_≡_};
-ghost use Prim.Native.Nat.{_+_, _*_, _/_, _%_, _^_, _<_, _≤_};
+ghost use Prim.Native.Nat.{_+_, _*_, _/_, _%_, _^_, _<_};
 
 // A bit of the quotient, or its low word, and the remainder.
 pub(crate) struct Step {

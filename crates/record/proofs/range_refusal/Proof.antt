@@ -1,6 +1,6 @@
 -- `record::range_refusal` meets its contract. The loop's invariant: no sample below `i` lies outside its range.
 use borrow.Author.Needs.{needs}
-use mathlib.Core.Path.{_≡_, refl, sym, ap, _∙_}
+use mathlib.Core.Path.{_≡_, sym}
 use Prim.Native.Nat.{_≤_, _-_, _+_}
 use native.Mathlib.Omega.{arith}
 use lib.IntN.{pos}

@@ -1,3 +1,4 @@
+-- `wide::at_most` meets its contract: the high halves decide, and where they are equal the low ones.
 use mathlib.Core.Path.{sym}
 use Prim.Native.Nat.{_^_}
 use native.Mathlib.Omega.{arith}

@@ -1,3 +1,4 @@
+-- `wide::divided` meets its contract: the high half by the machine, and its remainder before the low half.
 use borrow.Author.Needs.{needs}
 use native.Mathlib.Omega.{arith}
 use native.Mathlib.Nat.{mod-lt}

@@ -1,3 +1,4 @@
+-- `wide::product` meets its contract.
 use borrow.Author.Needs.{needs}
 use Rattle.wide.proofs.product.Statement.{statement}
 use Rattle.wide.proofs.product.Tie as tie

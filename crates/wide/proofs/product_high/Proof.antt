@@ -1,3 +1,4 @@
+-- `wide::product_high` meets its contract: the limbs' products and their sums fit a word.
 use mathlib.Core.Path.{sym}
 use Prim.Native.Nat.{_^_}
 use native.Mathlib.Omega.{arith}

@@ -1,3 +1,4 @@
+-- `wide::product_low` meets its contract: the limbs' products and their sums fit a word.
 use borrow.Author.Needs.{needs}
 use mathlib.Core.Path.{sym}
 use Prim.Native.Nat.{_^_}

@@ -1,3 +1,4 @@
+-- `wide::square_at_most` meets its contract.
 use borrow.Author.Needs.{needs}
 use mathlib.Core.Path.{ap, ap₂, _∙_}
 use Prim.Native.Nat.{ℕ, _*_}

@@ -1,3 +1,4 @@
+-- `wide::sum` meets its contract, where the low halves carry and where they do not.
 use borrow.Author.Needs.{needs}
 use native.Mathlib.Omega.{arith}
 use Rattle.wide.proofs.Carries.{sum-carried, sum-not-carried}

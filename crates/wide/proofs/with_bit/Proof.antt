@@ -1,3 +1,4 @@
+-- `wide::with_bit` meets its contract.
 use borrow.Author.Needs.{needs}
 use mathlib.Core.Bool.{true, false}
 use Prim.Native.Nat.{_+_}

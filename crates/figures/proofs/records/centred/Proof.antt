@@ -1,7 +1,6 @@
 -- `figures::records::centred` meets its contract: what is left lies within 2^40 either way.
 use borrow.Author.Needs.{needs}
 use Prim.Native.Nat.{_%_}
-use mathlib.Core.Path.{refl}
 use native.Mathlib.Omega.{arith}
 use lib.IntN.{pos}
 use mir.Syntax.{w64}

@@ -1,3 +1,5 @@
+-- `wide::long_division::low_word` meets its contract. The loop's invariant: quotient and remainder divide what stands above the low bits that are
+-- left.
 use mathlib.Core.Path.{_≡_, sym}
 use Prim.Native.Nat.{_+_, _*_, _%_, _^_, _≤_, _<_}
 use native.Mathlib.Omega.{arith}

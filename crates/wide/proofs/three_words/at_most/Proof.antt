@@ -1,3 +1,4 @@
+-- `wide::three_words::at_most` meets its contract: the top words decide, and where they are equal the two below them.
 use borrow.Author.Needs.{needs}
 use mathlib.Core.Path.{sym, _∙_}
 use Prim.Native.Nat.{_^_}

@@ -1,3 +1,4 @@
+-- `wide::three_words::times` meets its contract.
 use borrow.Author.Needs.{needs}
 use native.Mathlib.Omega.{arith}
 use Rattle.wide.proofs.ThreeWordLaws.{three-words-of-product}

@@ -1,0 +1,26 @@
+-- The two cases of a call that reads a file: refused, with the buffer as it came, and answered, with the values at its front.
+use mathlib.Core.Path.{_≡_, _∙_}
+use mathlib.Core.List.{List}
+use Prim.Native.Nat.{ℕ, _<_}
+use native.Mathlib.Omega.{arith}
+use borrow.Author.Tests.{ne-eqb}
+use lib.IntN.{ℤ}
+use Rattle.laws.specs.Lists.{written}
+use Rattle.record.specs.Answers.{bufferLeft}
+use Rattle.record.specs.Refusals.{none, refused}
+use Rattle.phr.specs.Reading.{kindOf, countOf, valuesFrom, valuesOf, readRefusal, readAnswer}
+use Rattle.phr.specs.declared.ReadAnswer.{ReadAnswer}
+
+module _ (bytes : List ℕ) (room : ℕ) (buffer : List ℤ) where
+  pub read-refused : {answer : ReadAnswer} (n p : ℕ) → 0 < n → readRefusal bytes room ≡ refused n p → answer ≡ record { number = n; place = p; kind = 0; count = 0 } →
+      (answer ≡ readAnswer bytes room) × (buffer ≡ bufferLeft (readRefusal bytes room) (valuesOf bytes) buffer)
+  unfolding readAnswer bufferLeft
+  read-refused n p h e a =
+      let numbered = ne-eqb n 0 (λ z. omega arith) in
+      (a ∙ rw (e, numbered), rw (e, numbered))
+
+  pub read-answered : {kind count : ℕ} {left : List ℤ} → readRefusal bytes room ≡ none → kind ≡ kindOf bytes → count ≡ countOf bytes →
+      left ≡ written (valuesFrom 8 count bytes) buffer →
+      (record { number = 0; place = 0; kind = kind; count = count } ≡ readAnswer bytes room) × (left ≡ bufferLeft (readRefusal bytes room) (valuesOf bytes) buffer)
+  unfolding readAnswer bufferLeft valuesOf
+  read-answered e k n w = (rw (e, k, n), w ∙ rw (e, n))

@@ -1,0 +1,11 @@
+pub mod ByteLaws
+pub mod SignLaws
+pub mod ValueLaws
+pub mod RangeCases
+pub mod RangeSearch
+pub mod HeaderLaws
+pub mod ReadCases
+pub mod WriteCases
+pub mod AnswerCases
+pub mod RoundTrip
+pub mod Unique

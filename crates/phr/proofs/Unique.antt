@@ -1,0 +1,13 @@
+-- Each contract of this crate leaves one answer and one content of the lent buffer: any two that it allows of the same arguments are equal.
+use mathlib.Core.Path.{sym, _∙_}
+use Rattle.laws.proofs.Single.{Single}
+use Rattle.phr.proofs.read_file.Reads as read-file
+use Rattle.phr.proofs.read_file.Kinds as read-file-kinds
+use Rattle.phr.proofs.write_file.Reads as write-file
+use Rattle.phr.proofs.write_file.Kinds as write-file-kinds
+
+pub read-file-single : Single 2 read-file-kinds.ps read-file-kinds.r read-file.Post
+read-file-single κs args z z′ w w′ first second = (first .0 ∙ sym (second .0), λ i. (tt, ((first .1 ∙ sym (second .1)) i, tt)))
+
+pub write-file-single : Single 2 write-file-kinds.ps write-file-kinds.r write-file.Post
+write-file-single κs args z z′ w w′ first second = (first .0 ∙ sym (second .0), λ i. (tt, (tt, ((first .1 ∙ sym (second .1)) i, tt))))

@@ -1,0 +1,24 @@
+-- The record file, version 1: what the file of a kind and a list of values is, apart from any reader.
+use mathlib.Core.Bool.{Bool, cond}
+use mathlib.Core.List.{List, _∷_, _++_}
+use Prim.Native.Nat.{ℕ, _^_}
+use lib.Dec.{leb, eqb}
+use lib.IntN.{ℤ, natAbs}
+use lib.ListN.{length}
+use Rattle.phr.specs.Bytes.{lowFirst, valuesBytes}
+
+-- bytes 50 48 52 ("PHR"); version 1 in 16 bits, low byte first; the kind, 0 phase or 1 frequency; the count in 16 bits, low byte first
+unfoldable pub header : ℕ → ℕ → List ℕ
+header kind count = 0x50 ∷ 0x48 ∷ 0x52 ∷ lowFirst 2 1 ++ (kind ∷ lowFirst 2 count)
+
+-- then each value
+unfoldable pub fileOf : ℕ → List ℤ → List ℕ
+fileOf kind values = header kind (length values) ++ valuesBytes values
+
+-- at most 32,768 samples, or 32,767 readings
+unfoldable pub mostValues : ℕ → ℕ
+mostValues kind = cond (eqb kind 0) 32768 32767
+
+-- phase samples lie within 2^40 either way, frequency values within 2^41
+unfoldable pub valueInRange : ℕ → ℤ → Bool
+valueInRange kind z = leb (natAbs z) (cond (eqb kind 0) (2 ^ 40) (2 ^ 41))
