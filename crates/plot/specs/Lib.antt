@@ -1,0 +1,5 @@
+pub mod Drawn
+pub mod Dots
+pub mod Noise
+pub mod NoiseOrder
+pub mod Bars

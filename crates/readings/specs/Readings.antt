@@ -1,0 +1,35 @@
+-- Float readings: which become samples, and what the others are refused for, by cases on the float.
+use mathlib.Core.Bool.{cond}
+use mathlib.Core.List.{List, map}
+use Prim.Native.Nat.{ℕ, _*_, _/_, _%_, _^_}
+use lib.Dec.{ltb, eqb}
+use lib.IntN.{ℤ, pos, negℤ}
+use lib.Ieee.{Float, nan, inf, fin, up, down}
+use lib.ListN.{length, getD}
+use Rattle.laws.specs.Lists.{firstFailing}
+use Rattle.record.specs.Refusals.{refusedIf}
+use Rattle.record.specs.declared.Refusal.{Refusal}
+
+-- 0 for a sample; 3 for an infinite reading or one beyond the sample range, fraction or not; otherwise 4, what is not a number too. A finite reading
+-- is m * 2^e, that is m * up e / down e
+unfoldable pub readingNumber : Float → ℕ
+readingNumber nan = 4
+readingNumber (inf s) = 3
+readingNumber (fin s m e) = cond (ltb (2 ^ 40 * down e) (m * up e)) 3 (cond (eqb (m * up e % down e) 0) 0 4)
+
+-- the sample that a whole reading in range becomes; minus zero becomes 0
+unfoldable pub sampleOf : Float → ℤ
+sampleOf nan = pos 0
+sampleOf (inf s) = pos 0
+sampleOf (fin s m e) = cond s (negℤ (pos (m * up e / down e))) (pos (m * up e / down e))
+
+unfoldable pub samplesOf : List Float → List ℤ
+samplesOf xs = map sampleOf xs
+
+-- the first reading that is no sample; the number of readings where every one is
+unfoldable pub firstBad : List Float → ℕ
+firstBad xs = firstFailing (λ x. eqb (readingNumber x) 0) xs
+
+-- 3 or 4 at the lowest index
+unfoldable pub readingRefusal : List Float → Refusal
+readingRefusal xs = refusedIf (ltb (firstBad xs) (length xs)) (readingNumber (getD xs (firstBad xs) nan)) (firstBad xs)

@@ -1,0 +1,132 @@
+// Float readings, lent whole: turned into samples in a lent buffer, and their sums. Sums of samples are those of crate sums.
+mod reading;
+
+use record::Refusal;
+use sums::Part;
+use sums::SumAnswer;
+ghost use mathlib.Core.Path.{_≡_};
+ghost use Prim.Native.Nat.{_≤_};
+ghost use lib.ListN.{length};
+ghost use Rattle.laws.specs.Lists.{written};
+ghost use Rattle.record.specs.Refusals.{none};
+ghost use Rattle.record.specs.Answers.{bufferLeft};
+ghost use Rattle.sums.specs.Answers.{noPart};
+ghost use Rattle.readings.specs.Readings.{samplesOf, readingRefusal};
+ghost use Rattle.readings.specs.Answers.{floatRefusal, floatAnswer};
+
+// The Allan sum, and the modified sum with its own number where it is not due.
+#[repr(C)]
+pub struct FloatSums {
+    pub number: u64,
+    pub place: u64,
+    pub allan: Part,
+    pub modified: Part,
+}
+
+// Writes the samples of the readings to the front of the buffer, and gives their sums at factor m. Refuses 5, 2, 1, 6, then 3 or 4 at the lowest
+// index.
+pub fn float_sums(readings: &[f64], m: u64, buffer: &mut [i64]) -> FloatSums
+    ensures { λ r. ⌜ (r ≡ floatAnswer m (now (readings .entry)) (length (now (buffer .entry)))) × (now (buffer .exit) ≡ bufferLeft (floatRefusal m (now (readings .entry)) (length (now (buffer .entry)))) (samplesOf (now (readings .entry))) (now (buffer .entry))) ⌝ }
+{
+    let refusal = float_refusal(readings, m, buffer.len());
+    if refusal.number != 0 {
+        return refused(refusal);
+    }
+    write_samples(readings, buffer);
+    let count = readings.len();
+    let samples = &buffer[..count];
+    FloatSums {
+        number: 0,
+        place: 0,
+        allan: part_of(sums::allan_sum(samples, m)),
+        modified: part_of(sums::modified_sum(samples, m)),
+    }
+}
+
+// 5, 2, 1, 6, then 3 or 4 at the lowest index.
+fn float_refusal(readings: &[f64], m: u64, room: usize) -> Refusal
+    ensures { λ r. ⌜ r ≡ floatRefusal m (now (readings .entry)) room ⌝ }
+{
+    let count = readings.len();
+    let size = record::size_refusal(sums::ALLAN, m, count as u64);
+    if size.number != 0 {
+        return size;
+    }
+    if room < count {
+        return Refusal {
+            number: record::NO_ROOM,
+            place: 0,
+        };
+    }
+    reading_refusal(readings)
+}
+
+// 3 or 4 at the first reading that is no sample.
+fn reading_refusal(readings: &[f64]) -> Refusal
+    ensures { λ r. ⌜ r ≡ readingRefusal (now (readings .entry)) ⌝ }
+{
+    let mut i: usize = 0;
+    while i < readings.len() {
+        let number = reading::number_of(readings[i]);
+        if number != 0 {
+            return Refusal {
+                number,
+                place: i as u64,
+            };
+        }
+        i += 1;
+    }
+    Refusal {
+        number: 0,
+        place: 0,
+    }
+}
+
+// The samples at the front of the buffer.
+fn write_samples(readings: &[f64], buffer: &mut [i64])
+    requires { ⌜ (readingRefusal (now readings) ≡ none) × (length (now readings) ≤ length (now buffer)) ⌝ }
+    ensures { λ r. ⌜ now (buffer .exit) ≡ written (samplesOf (now (readings .entry))) (now (buffer .entry)) ⌝ }
+{
+    let mut i: usize = 0;
+    while i < readings.len() {
+        buffer[i] = reading::sample_of(readings[i]);
+        i += 1;
+    }
+}
+
+// One sum's part of the answer.
+fn part_of(answer: SumAnswer) -> Part
+    ensures { λ r. ⌜ r ≡ record { number = answer .number; high = answer .high; low = answer .low; count = answer .count } ⌝ }
+{
+    Part {
+        number: answer.number,
+        high: answer.high,
+        low: answer.low,
+        count: answer.count,
+    }
+}
+
+// Noughts beside a refusal.
+fn refused(refusal: Refusal) -> FloatSums
+    ensures { λ r. ⌜ r ≡ record { number = refusal .number; place = refusal .place; allan = noPart; modified = noPart } ⌝ }
+{
+    let part = no_part();
+    FloatSums {
+        number: refusal.number,
+        place: refusal.place,
+        allan: part,
+        modified: part,
+    }
+}
+
+// A part of an answer that is refused as a whole.
+fn no_part() -> Part
+    ensures { λ r. ⌜ r ≡ noPart ⌝ }
+{
+    Part {
+        number: 0,
+        high: 0,
+        low: 0,
+        count: 0,
+    }
+}
