@@ -144,8 +144,27 @@ def sums():
                     yield figure(name, record[:n], m, kind)
 
 
+# ---- streams
+
+def stream_part(samples, m, kind):
+    each, besides = (2, 1) if kind == "Allan" else (3, 0)
+    if len(samples) < each * m + besides:
+        return " refused 1"
+    total, count = (allan_sum if kind == "Allan" else modified_sum)(samples, m)
+    return f" {halves(total)} of {count}"
+
+
+def streams():
+    records = dict(RECORDS)
+    for name in "ends", "blocks", "scattered":
+        for m, n in (1, 2), (1, 3), (2, 5), (2, 6), (7, 100), (500, 1501), (500, 32768), (10922, 32768):
+            parts = "".join(stream_part(records[name][:n], m, kind) for kind in ("Allan", "modified"))
+            for side in "meter", "record":
+                yield f"stream {name} m {m} N {n} {side}{parts}"
+
+
 def main():
-    text = "".join(line + "\n" for part in (refusals, wide_numbers, sums) for line in part())
+    text = "".join(line + "\n" for part in (refusals, wide_numbers, sums, streams) for line in part())
     if len(sys.argv) < 2:
         sys.stdout.write(text)
         return

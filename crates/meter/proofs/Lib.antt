@@ -1,0 +1,9 @@
+pub mod TestLaws
+pub mod ArithmeticLaws
+pub mod AnswerLaws
+pub mod Stream
+pub mod Running
+pub mod Trace
+pub mod Condition3
+pub mod LatestOnly
+pub mod Unique

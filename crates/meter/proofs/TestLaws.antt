@@ -1,0 +1,233 @@
+-- What the tests of a meter and of its ring tell, taken in the order in which the code makes them.
+use mathlib.Core.Path.{_≡_, sym, ap, _∙_}
+use mathlib.Core.Bool.{Bool, true, false, cond, not, _&&_}
+use mathlib.Core.List.{List}
+use Prim.Native.Nat.{ℕ, _-_, _*_, _%_, _^_, _≤_, _<_}
+use native.Mathlib.Nat.{mod-lt}
+use native.Mathlib.Omega.{arith}
+use borrow.Author.Tests.{ltb-true, leb-true, lt-ltb, le-ltb, le-leb, lt-leb, eq-eqb, ne-eqb, not-false, eqb-false}
+use lib.Dec.{leb, ltb, eqb}
+use lib.IntN.{ℤ, pos, natAbs}
+use lib.Signed.{mag, ltZ, leZ}
+use lib.ListN.{length}
+use mir.Syntax.{w64}
+use mir.Val.{SFits, ofZ, toZ}
+use Rattle.laws.proofs.Expressions.{Expression, $_, #_, _⊗_, ⊝_}
+use Rattle.laws.proofs.Machine.{Fit, machine, machine-is, test-is}
+use Rattle.laws.proofs.Tests.{choice-true, first-true, second-true}
+use Rattle.record.specs.Refusals.{none, refused, refusedIf, _then_, inRange}
+use Rattle.record.specs.declared.Refusal.{Refusal}
+use Rattle.record.proofs.RangeLaws.{below-low-end, above-low-end, sample-bounded}
+use Rattle.record.proofs.RefusalLaws.{first-refuses-nothing, rest-refuses-nothing, test-fails}
+use Rattle.meter.specs.Meter.{factorFits, holdsTogether, slot, ringHolds}
+use Rattle.meter.specs.Answers.{sampleRefusal}
+use Rattle.meter.specs.declared.Meter.{Meter}
+
+-- ---- the window sum
+
+-- the end of its range, as the code has it
+abbrev pub windowEnd : ℕ → Expression
+windowEnd m = $ pos m ⊗ # (2 ^ 42)
+
+module _ (m : ℕ) (most : m ≤ 10922) where
+  pub window-end-fits : Fit w64 (⊝ windowEnd m)
+  window-end-fits = omega arith
+
+  module _ (window : ℤ) (fits : SFits w64 window) where
+    pub window-below-its-range : ltZ (machine w64 ($ window)) (machine w64 (⊝ windowEnd m)) ≡ true → leb (natAbs window) (m * 2 ^ 42) ≡ false
+    window-below-its-range t =
+        below-low-end (m * 2 ^ 42) window (sym (test-is w64 ($ window) (⊝ windowEnd m) fits window-end-fits ltZ) ∙ t)
+
+    pub window-not-below-its-range : ltZ (machine w64 ($ window)) (machine w64 (⊝ windowEnd m)) ≡ false →
+        leZ (machine w64 ($ window)) (machine w64 (windowEnd m)) ≡ leb (natAbs window) (m * 2 ^ 42)
+    window-not-below-its-range t =
+        test-is w64 ($ window) (windowEnd m) fits (window-end-fits .0) leZ
+        ∙ above-low-end (m * 2 ^ 42) window (sym (test-is w64 ($ window) (⊝ windowEnd m) fits window-end-fits ltZ) ∙ t)
+
+-- what the test's answer tells of a window sum that a field held
+pub window-decided : (window : ℤ) → mag window < 2 ^ 63 → (limit : ℕ) {answer t : Bool} →
+    answer ≡ leb (natAbs (toZ w64 (ofZ w64 window))) limit → answer ≡ t → leb (natAbs window) limit ≡ t
+window-decided window fits limit e t = ap (λ (z : ℤ). leb (natAbs z) limit) (sym (machine-is w64 ($ window) (record { sfits = fits }))) ∙ sym e ∙ t
+
+-- ---- the meter alone
+
+-- what is known of a meter that holds together
+pub record Together (x : Meter) : Type 0 where
+  pub factor-least : 1 ≤ x .m
+  pub factor-most : x .m ≤ 10922
+  pub not-too-many : x .n ≤ 32768
+  pub window-within : natAbs (x .window) ≤ x .m * 2 ^ 42
+  pub a-below : x .a .hi < 2 ^ 62
+  pub b-below : x .b .hi < 2 ^ 62
+
+module _ (x : Meter) where
+  abbrev halvesBelow : Bool
+  halvesBelow = ltb (x .a .hi) (2 ^ 62) && ltb (x .b .hi) (2 ^ 62)
+
+  pub high-of-a-fails : 2 ^ 62 ≤ x .a .hi → halvesBelow ≡ false
+  high-of-a-fails h = simp (le-ltb (x .a .hi) (2 ^ 62) h)
+
+  pub high-of-b-decides : x .a .hi < 2 ^ 62 → halvesBelow ≡ ltb (x .b .hi) (2 ^ 62)
+  high-of-b-decides h = simp (lt-ltb (x .a .hi) (2 ^ 62) h)
+
+  pub factor-nought-fails : x .m < 1 → holdsTogether x ≡ false
+  unfolding holdsTogether factorFits
+  factor-nought-fails h = simp (lt-leb 1 (x .m) h)
+
+  module _ (least : 1 ≤ x .m) where
+    pub factor-too-large-fails : 10922 < x .m → holdsTogether x ≡ false
+    unfolding holdsTogether factorFits
+    factor-too-large-fails h = simp (le-leb 1 (x .m) least, lt-leb (x .m) 10922 h)
+
+    module _ (most : x .m ≤ 10922) where
+      pub too-many-fails : 32768 < x .n → holdsTogether x ≡ false
+      unfolding holdsTogether factorFits
+      too-many-fails h = simp (le-leb 1 (x .m) least, le-leb (x .m) 10922 most, lt-leb (x .n) 32768 h)
+
+      module _ (few : x .n ≤ 32768) {within : Bool} (window : leb (natAbs (x .window)) (x .m * 2 ^ 42) ≡ within) where
+        pub window-and-halves-decide : holdsTogether x ≡ (within && halvesBelow)
+        unfolding holdsTogether factorFits
+        window-and-halves-decide = simp (le-leb 1 (x .m) least, le-leb (x .m) 10922 most, le-leb (x .n) 32768 few, window)
+
+  pub holds-together : holdsTogether x ≡ true → Together x
+  unfolding holdsTogether factorFits
+  holds-together e =
+      let window = leb (natAbs (x .window)) (x .m * 2 ^ 42) in
+      let fits = leb 1 (x .m) && leb (x .m) 10922 in
+      let factor = first-true fits _ e in
+      let after-factor = second-true fits _ e in
+      let after-count = second-true (leb (x .n) 32768) _ after-factor in
+      let halves = second-true window _ after-count in record {
+        factor-least = leb-true 1 (x .m) (first-true (leb 1 (x .m)) _ factor);
+        factor-most = leb-true (x .m) 10922 (second-true (leb 1 (x .m)) _ factor);
+        not-too-many = leb-true (x .n) 32768 (first-true (leb (x .n) 32768) _ after-factor);
+        window-within = leb-true (natAbs (x .window)) (x .m * 2 ^ 42) (first-true window _ after-count);
+        a-below = ltb-true (x .a .hi) (2 ^ 62) (first-true (ltb (x .a .hi) (2 ^ 62)) _ halves);
+        b-below = ltb-true (x .b .hi) (2 ^ 62) (second-true (ltb (x .a .hi) (2 ^ 62)) _ halves);
+      }
+
+-- ---- the ring
+
+-- a slot of a ring that is not shorter than 3m lies in the ring
+pub slot-inside : (m k length : ℕ) → 1 ≤ m → 3 * m ≤ length → k % (3 * m) < length
+slot-inside m k length least long = omega (arith, mod-lt k {m = 3 * m} (omega arith))
+
+-- samples n-m, n-2m and n-3m
+abbrev pub oneBack : Meter → List ℤ → ℤ
+oneBack x ring = slot x ring (x .n - x .m)
+
+abbrev pub twoBack : Meter → List ℤ → ℤ
+twoBack x ring = slot x ring (x .n - 2 * x .m)
+
+abbrev pub threeBack : Meter → List ℤ → ℤ
+threeBack x ring = slot x ring (x .n - 3 * x .m)
+
+module _ (x : Meter) (ring : List ℤ) where
+  -- what is asked where a slot is read
+  pub slots-lie : holdsTogether x ≡ true → 3 * x .m ≤ length ring → (1 ≤ x .m) × (x .m ≤ 10922) × (3 * x .m ≤ length ring)
+  slots-lie e long = (holds-together x e .factor-least, holds-together x e .factor-most, long)
+
+  pub short-ring-fails : length ring < 3 * x .m → ringHolds x ring ≡ false
+  unfolding ringHolds
+  short-ring-fails h = simp (lt-leb (3 * x .m) (length ring) h)
+
+  module _ (long : 3 * x .m ≤ length ring) where
+    pub no-slot-is-read : x .n < 2 * x .m → ringHolds x ring ≡ true
+    unfolding ringHolds
+    no-slot-is-read h = simp (le-leb (3 * x .m) (length ring) long, lt-leb (2 * x .m) (x .n) h, lt-leb (3 * x .m) (x .n) (omega arith))
+
+    module _ (due : 2 * x .m ≤ x .n) where
+      pub first-slot-fails : inRange (oneBack x ring) ≡ false → ringHolds x ring ≡ false
+      unfolding ringHolds
+      first-slot-fails e = simp (le-leb (3 * x .m) (length ring) long, le-leb (2 * x .m) (x .n) due, e)
+
+      module _ (first : inRange (oneBack x ring) ≡ true) where
+        pub second-slot-fails : inRange (twoBack x ring) ≡ false → ringHolds x ring ≡ false
+        unfolding ringHolds
+        second-slot-fails e = simp (le-leb (3 * x .m) (length ring) long, le-leb (2 * x .m) (x .n) due, first, e)
+
+        module _ (second : inRange (twoBack x ring) ≡ true) where
+          pub two-slots-hold : x .n < 3 * x .m → ringHolds x ring ≡ true
+          unfolding ringHolds
+          two-slots-hold h = simp (le-leb (3 * x .m) (length ring) long, le-leb (2 * x .m) (x .n) due, lt-leb (3 * x .m) (x .n) h, first, second)
+
+          pub third-slot-decides : 3 * x .m ≤ x .n → ringHolds x ring ≡ inRange (threeBack x ring)
+          unfolding ringHolds
+          third-slot-decides h = simp (le-leb (3 * x .m) (length ring) long, le-leb (2 * x .m) (x .n) due, le-leb (3 * x .m) (x .n) h, first, second)
+
+-- what is known of a ring that holds
+pub record Slots (x : Meter) (ring : List ℤ) : Type 0 where
+  pub long : 3 * x .m ≤ length ring
+  pub latest : 2 * x .m ≤ x .n → (natAbs (oneBack x ring) ≤ 2 ^ 40) × (natAbs (twoBack x ring) ≤ 2 ^ 40)
+  pub oldest : 3 * x .m ≤ x .n → natAbs (threeBack x ring) ≤ 2 ^ 40
+
+pub ring-holds : (x : Meter) (ring : List ℤ) → ringHolds x ring ≡ true → Slots x ring
+unfolding ringHolds
+ring-holds x ring e =
+    let first = inRange (oneBack x ring) in
+    let second = inRange (twoBack x ring) in
+    let third = inRange (threeBack x ring) in
+    let two = cond (leb (2 * x .m) (x .n)) (first && second) true in
+    let all = second-true (leb (3 * x .m) (length ring)) _ e in
+    let both : 2 * x .m ≤ x .n → (first && second) ≡ true = λ due. sym (choice-true _ _ (le-leb (2 * x .m) (x .n) due)) ∙ first-true two _ all in
+    let last : 3 * x .m ≤ x .n → third ≡ true = λ full. sym (choice-true _ _ (le-leb (3 * x .m) (x .n) full)) ∙ second-true two _ all in record {
+      long = leb-true (3 * x .m) (length ring) (first-true (leb (3 * x .m) (length ring)) _ e);
+      latest = λ due. (sample-bounded _ (first-true first second (both due)), sample-bounded _ (second-true first second (both due)));
+      oldest = λ full. sample-bounded _ (last full);
+    }
+
+-- ---- a sample call: 7, 2, 3
+
+module _ (x : Meter) (ring : List ℤ) (v : ℤ) where
+  pub meter-refused : holdsTogether x ≡ false → sampleRefusal x ring v ≡ refused 7 0
+  unfolding sampleRefusal
+  meter-refused e = simp e
+
+  module _ (together : holdsTogether x ≡ true) where
+    pub ring-refused : ringHolds x ring ≡ false → sampleRefusal x ring v ≡ refused 7 0
+    unfolding sampleRefusal
+    ring-refused e = simp (together, e)
+
+    module _ (sound : ringHolds x ring ≡ true) where
+      pub count-refused : x .n ≡ 32768 → sampleRefusal x ring v ≡ refused 2 0
+      unfolding sampleRefusal
+      count-refused e = simp (together, sound, eq-eqb (x .n) 32768 e)
+
+      module _ (room : x .n ≡ 32768 → ⊥) where
+        pub sample-refused : inRange v ≡ false → sampleRefusal x ring v ≡ refused 3 0
+        unfolding sampleRefusal
+        sample-refused e = simp (together, sound, ne-eqb (x .n) 32768 room, e)
+
+        pub sample-let-in : inRange v ≡ true → sampleRefusal x ring v ≡ none
+        unfolding sampleRefusal
+        sample-let-in e = simp (together, sound, ne-eqb (x .n) 32768 room, e)
+
+-- what is known where a sample is let in
+pub record LetIn (x : Meter) (ring : List ℤ) (v : ℤ) : Type 0 where
+  pub meter-holds : holdsTogether x ≡ true
+  pub ring-holds : ringHolds x ring ≡ true
+  pub room : x .n < 32768
+  pub sample-within : natAbs v ≤ 2 ^ 40
+
+pub let-in : (x : Meter) (ring : List ℤ) (v : ℤ) → sampleRefusal x ring v ≡ none → LetIn x ring v
+unfolding sampleRefusal
+let-in x ring v e =
+    let good = holdsTogether x && ringHolds x ring in
+    let bad = refusedIf (not good) 7 0 in
+    let full = refusedIf (eqb (x .n) 32768) 2 0 in
+    let out = refusedIf (not (inRange v)) 3 0 in
+    let unrefused = ap (λ (r : Refusal). r .number) e in
+    let rest = rest-refuses-nothing bad (full then out) unrefused in
+    let both = not-false good (test-fails (not good) 7 0 (omega arith) (first-refuses-nothing bad (full then out) unrefused)) in
+    let meter = first-true (holdsTogether x) (ringHolds x ring) both in
+    let not-full : x .n ≡ 32768 → ⊥ = eqb-false (x .n) 32768 (test-fails _ 2 0 (omega arith) (first-refuses-nothing full out rest)) in record {
+      meter-holds = meter;
+      ring-holds = second-true (holdsTogether x) (ringHolds x ring) both;
+      room = omega (arith, holds-together x meter .not-too-many);
+      sample-within = sample-bounded v (not-false (inRange v) (test-fails _ 3 0 (omega arith) (rest-refuses-nothing full out rest)));
+    }
+
+pub slots-lie-where-let-in : (x : Meter) (ring : List ℤ) (v : ℤ) → sampleRefusal x ring v ≡ none → (1 ≤ x .m) × (x .m ≤ 10922) × (3 * x .m ≤ length ring)
+slots-lie-where-let-in x ring v unrefused =
+    let known = let-in x ring v unrefused in
+    slots-lie x ring (known .meter-holds) (ring-holds x ring (known .ring-holds) .long)

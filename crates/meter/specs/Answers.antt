@@ -1,0 +1,65 @@
+-- What the meter's calls answer, refusals too.
+use mathlib.Core.Bool.{cond, not, _&&_}
+use mathlib.Core.List.{List}
+use Prim.Native.Nat.{ℕ, _+_, _-_, _*_}
+use lib.Dec.{leb, ltb, eqb}
+use lib.IntN.{ℤ}
+use lib.ListN.{length}
+use Rattle.wide.specs.Wide.{value}
+use Rattle.record.specs.Refusals.{refusedIf, _then_, inRange}
+use Rattle.record.specs.declared.Refusal.{Refusal}
+use Rattle.sums.specs.Published.{allanSum, allanCount, modifiedSum, modifiedCount}
+use Rattle.sums.specs.Answers.{partOf, noPart}
+use Rattle.meter.specs.Meter.{factorFits, holdsTogether, ringHolds, withSample, ringWith, started}
+use Rattle.meter.specs.declared.Meter.{Meter}
+use Rattle.meter.specs.declared.MeterAnswer.{MeterAnswer}
+use Rattle.meter.specs.declared.Report.{Report}
+
+-- a new meter, or the refusal and the meter as it came
+unfoldable pub meterAnswer : Refusal → Meter → Meter → MeterAnswer
+meterAnswer r old new =
+    cond (eqb (r .number) 0)
+    (record { number = 0; place = 0; meter = new })
+    (record { number = r .number; place = r .place; meter = old })
+
+-- a start refuses 5, then 6, never 7
+unfoldable pub startRefusal : ℕ → List ℤ → Refusal
+startRefusal m ring = refusedIf (not (factorFits m)) 5 0 then refusedIf (ltb (length ring) (3 * m)) 6 0
+
+unfoldable pub startAnswer : Meter → ℕ → List ℤ → MeterAnswer
+startAnswer old m ring = meterAnswer (startRefusal m ring) old (started m)
+
+-- a sample call refuses 7, 2 (n is already 32,768), 3
+unfoldable pub sampleRefusal : Meter → List ℤ → ℤ → Refusal
+sampleRefusal x ring v =
+    refusedIf (not (holdsTogether x && ringHolds x ring)) 7 0
+    then refusedIf (eqb (x .n) 32768) 2 0
+    then refusedIf (not (inRange v)) 3 0
+
+unfoldable pub sampleAnswer : Meter → List ℤ → ℤ → MeterAnswer
+sampleAnswer x ring v = meterAnswer (sampleRefusal x ring v) x (withSample x ring v)
+
+-- the ring as a sample call leaves it
+unfoldable pub ringLeft : Meter → List ℤ → ℤ → List ℤ
+ringLeft x ring v = cond (eqb (sampleRefusal x ring v .number) 0) (ringWith x ring v) ring
+
+-- a report refuses 7; else A with n-2m and B with n-3m+1, each apart
+unfoldable pub reportAnswer : Meter → Report
+reportAnswer x =
+    cond (holdsTogether x)
+    (record {
+      number = 0;
+      place = 0;
+      allan = partOf (leb (2 * x .m + 1) (x .n)) (value (x .a)) (x .n - 2 * x .m);
+      modified = partOf (leb (3 * x .m) (x .n)) (value (x .b)) (x .n + 1 - 3 * x .m);
+    })
+    (record { number = 7; place = 0; allan = noPart; modified = noPart })
+
+-- what the published formulas give of samples xs at factor m, in a report's form
+unfoldable pub publishedReport : ℕ → List ℤ → Report
+publishedReport m xs = record {
+  number = 0;
+  place = 0;
+  allan = partOf (leb (2 * m + 1) (length xs)) (allanSum m xs) (allanCount m xs);
+  modified = partOf (leb (3 * m) (length xs)) (modifiedSum m xs) (modifiedCount m xs);
+}

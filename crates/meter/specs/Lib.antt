@@ -1,0 +1,2 @@
+pub mod Meter
+pub mod Answers
