@@ -1,0 +1,20 @@
+-- Every starred figure of the outline holds.
+use mathlib.Core.Path.{_≡_, refl}
+use mathlib.Core.List.{[]}
+use Rattle.laws.specs.Sums.{sum, sumℤ}
+use Rattle.laws.specs.Lists.{tabulate, firstFailing}
+use Rattle.laws.specs.Greatest.{bitByBit}
+use Rattle.record.specs.Refusals.{inRange, rangeRefusal, sizeRefusal, recordRefusal}
+use Rattle.record.specs.Frequency.{phasesFrom, phases}
+use Rattle.record.specs.Drift.{driftP, driftR, driftRefusal, driftAnswer, floored, withoutDrift}
+use Rattle.sums.specs.Published.{difference, allanCount, allanSum, allanDenominator, windowSum, modifiedCount, modifiedSum, timeDenominator}
+use Rattle.sums.specs.Fractions.{euclid, gcd, lowestTerms}
+use Rattle.sums.specs.Deviations.{deviation}
+use Rattle.sums.specs.Answers.{sumAnswer, allanSumAnswer, modifiedSumAnswer, figureRefusal, fractionAnswer, allanFractionAnswer, timeFractionAnswer, deviationRefusal, deviationAnswer, allanDeviationAnswer}
+use Rattle.plot.specs.Noise.{alphaOf, kappaOf, noiseOf, noiseRefusal, noiseAnswer, typeAnswer}
+use Rattle.plot.specs.Bars.{barWidth, barHalf}
+use Rattle.acceptance.specs.Figures.{sameList, holds, failing, table}
+
+pub starred-figures : failing table ≡ []
+unfolding failing holds table sameList sum sumℤ tabulate firstFailing bitByBit inRange rangeRefusal sizeRefusal recordRefusal phasesFrom phases driftP driftR driftRefusal driftAnswer floored withoutDrift difference allanCount allanSum allanDenominator windowSum modifiedCount modifiedSum timeDenominator euclid gcd lowestTerms deviation sumAnswer allanSumAnswer modifiedSumAnswer figureRefusal fractionAnswer allanFractionAnswer timeFractionAnswer deviationRefusal deviationAnswer allanDeviationAnswer alphaOf kappaOf noiseOf noiseRefusal noiseAnswer typeAnswer barWidth barHalf
+starred-figures = refl
