@@ -5,8 +5,8 @@ use Rattle.laws.specs.Sums.{sum, sumℤ}
 use Rattle.laws.specs.Lists.{tabulate, firstFailing}
 use Rattle.laws.specs.Greatest.{bitByBit}
 use Rattle.record.specs.Refusals.{inRange, rangeRefusal, sizeRefusal, recordRefusal}
-use Rattle.record.specs.Frequency.{phasesFrom, phases}
-use Rattle.record.specs.Drift.{driftP, driftR, driftRefusal, driftAnswer, floored, withoutDrift}
+use Rattle.frequency.specs.Frequency.{phasesFrom, phases}
+use Rattle.drift.specs.Drift.{driftP, driftR, driftRefusal, driftAnswer, floored, withoutDrift}
 use Rattle.sums.specs.Published.{difference, allanCount, allanSum, allanDenominator, windowSum, modifiedCount, modifiedSum, timeDenominator}
 use Rattle.sums.specs.Fractions.{euclid, gcd, lowestTerms}
 use Rattle.sums.specs.Deviations.{deviation}

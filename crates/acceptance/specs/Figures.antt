@@ -6,8 +6,8 @@ use lib.Dec.{eqb}
 use lib.IntN.{ℤ, pos, negsuc}
 use lib.Signed.{leZ}
 use lib.ListN.{length}
-use Rattle.record.specs.Frequency.{phases}
-use Rattle.record.specs.Drift.{driftAnswer, withoutDrift}
+use Rattle.frequency.specs.Frequency.{phases}
+use Rattle.drift.specs.Drift.{driftAnswer, withoutDrift}
 use Rattle.sums.specs.Answers.{allanSumAnswer, modifiedSumAnswer, allanFractionAnswer, timeFractionAnswer, allanDeviationAnswer}
 use Rattle.sums.specs.declared.SumAnswer.{SumAnswer}
 use Rattle.sums.specs.declared.FractionAnswer.{FractionAnswer}

@@ -105,7 +105,7 @@ fn frequency(values: &[i64; 32768], count: usize) {
     if all.len() < count {
         return;
     }
-    let answer = record::frequency::phase_from_frequency(&all[..count], &mut phases);
+    let answer = frequency::phase_from_frequency(&all[..count], &mut phases);
     if answer.number != 0 {
         text(b", phases ");
         refusal(answer.number, answer.place);

@@ -7,6 +7,7 @@ use lib.IntN.{ℤ}
 use lib.ListN.{length, getD}
 use Rattle.laws.specs.Lists.{tabulate, firstFailing}
 use Rattle.record.specs.Refusals.{refusedIf, _then_}
+use Rattle.record.specs.Answers.{bufferLeft}
 use Rattle.record.specs.declared.Refusal.{Refusal}
 use Rattle.phr.specs.Bytes.{valueAt}
 use Rattle.phr.specs.File.{mostValues, valueInRange}
@@ -72,3 +73,7 @@ readAnswer bytes room =
     cond (eqb (readRefusal bytes room .number) 0)
     (record { number = 0; place = 0; kind = kindOf bytes; count = countOf bytes })
     (record { number = readRefusal bytes room .number; place = readRefusal bytes room .place; kind = 0; count = 0 })
+
+-- the values in the buffer
+abbrev pub readBuffer : List ℕ → List ℤ → List ℤ
+readBuffer bytes buffer = bufferLeft (readRefusal bytes (length buffer)) (valuesOf bytes) buffer

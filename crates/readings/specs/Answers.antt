@@ -4,8 +4,10 @@ use mathlib.Core.List.{List}
 use Prim.Native.Nat.{ℕ, _*_}
 use lib.Dec.{leb, ltb, eqb}
 use lib.Ieee.{Float}
+use lib.IntN.{ℤ}
 use lib.ListN.{length}
 use Rattle.record.specs.Refusals.{refusedIf, _then_, sizeRefusal}
+use Rattle.record.specs.Answers.{bufferLeft}
 use Rattle.record.specs.declared.Refusal.{Refusal}
 use Rattle.sums.specs.Published.{allanSum, allanCount, modifiedSum, modifiedCount}
 use Rattle.sums.specs.Answers.{allanDemand, partOf, noPart}
@@ -27,3 +29,7 @@ floatAnswer m xs room =
       modified = partOf (leb (3 * m) (length xs)) (modifiedSum m (samplesOf xs)) (modifiedCount m (samplesOf xs));
     })
     (record { number = floatRefusal m xs room .number; place = floatRefusal m xs room .place; allan = noPart; modified = noPart })
+
+-- the samples in the buffer
+abbrev pub floatBuffer : ℕ → List Float → List ℤ → List ℤ
+floatBuffer m xs buffer = bufferLeft (floatRefusal m xs (length buffer)) (samplesOf xs) buffer

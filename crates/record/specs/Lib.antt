@@ -1,4 +1,2 @@
 pub mod Refusals
 pub mod Answers
-pub mod Frequency
-pub mod Drift

@@ -1,10 +1,8 @@
-// The limits of records, the refusal numbers and the checks that entries share; phase from frequency and back; drift. Sums, files and the meter
-// are left to others.
-pub mod drift;
-pub mod frequency;
+// The limits of records, the refusal numbers, and the checks that entries share. What is worked from a record is left to others.
 
 ghost use mathlib.Core.Path.{_≡_};
 ghost use Rattle.record.specs.Refusals.{inRange, rangeRefusal, sizeRefusal, recordRefusal};
+ghost use Rattle.record.specs.Answers.{refusedCount};
 
 // A phase sample lies within this many picoseconds either way: 2^40.
 pub const LARGEST_SAMPLE: i64 = 1099511627776;
@@ -136,8 +134,8 @@ pub fn record_refusal(demand: Demand, m: u64, samples: &[i64]) -> Refusal
 }
 
 // Nought beside a refusal.
-pub(crate) fn refused_count(number: u64, place: u64) -> CountAnswer
-    ensures { λ r. ⌜ r ≡ record { number = number; place = place; count = 0 } ⌝ }
+pub fn refused_count(number: u64, place: u64) -> CountAnswer
+    ensures { λ r. ⌜ r ≡ refusedCount number place ⌝ }
 {
     CountAnswer {
         number,

@@ -8,4 +8,3 @@ pub mod Unique
 pub mod Shifted
 pub mod Variances
 pub mod Bounds
-pub mod Drifts

@@ -12,6 +12,7 @@ ghost use Rattle.laws.specs.Sums.{square};
 ghost use Rattle.wide.specs.Wide.{value, halves, wideSum, divisionOf, squareRoot};
 
 // hi * 2^64 + lo.
+#[repr(C)]
 pub struct Wide {
     pub hi: u64,
     pub lo: u64,

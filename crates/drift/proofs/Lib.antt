@@ -1,0 +1,4 @@
+pub mod Floors
+pub mod DriftLaws
+pub mod Drifts
+pub mod Unique

@@ -1,0 +1,279 @@
+-- What the code of phase from frequency and back asks: a running phase that stays in range or leaves it, one turn of each loop, and the cases of
+-- the two refusals in their order.
+use mathlib.Core.Path.{_≡_, refl, sym, ap, _∙_}
+use mathlib.Core.Bool.{Bool, true, false}
+use mathlib.Core.List.{List}
+use Prim.Native.Nat.{ℕ, zero, suc, _+_, _-_, _^_, _≤_, _<_}
+use native.Mathlib.Omega.{arith}
+use borrow.Author.Tests.{lt-leb, lt-ltb, le-ltb, eq-eqb, ne-eqb}
+use lib.IntN.{ℤ, pos, negsuc, natAbs, _+ℤ_, _-ℤ_, +ℤ-idl}
+use lib.ListN.{length, drop, set, length-drop, length-set}
+use lib.Seq.{getD-drop}
+use lib.Signed.{mag, ltZ}
+use mir.Syntax.{w64}
+use mir.Val.{ofZ, toZ, SFits}
+use Rattle.laws.specs.Lists.{at, firstFailing, written}
+use Rattle.laws.specs.Sums.{sumℤ}
+use Rattle.laws.proofs.ListLaws.{tabulate-length, tabulate-entry, search-goes-on, search-ends-here, search-ends, first-failing-within, none-fails, all-pass, writtenSoFar, written-one-more, written-whole}
+use Rattle.laws.proofs.SumLaws.{sumℤ-zero, sumℤ-suc, sumℤ-step}
+use Rattle.laws.proofs.Parts.{one-part, +ℤ-parts, size-is, small-fits}
+use Rattle.laws.proofs.Expressions.{Expression, $_, ±_, _∋_, _⊕_, _⊖_}
+use Rattle.laws.proofs.Machine.{Fit, machine, result, machine-is, result-is, argument, LeavesFit, argument-is, lt-taken, lt-left}
+use Rattle.record.specs.Refusals.{none, refused, inRange, rangeRefusal}
+use Rattle.frequency.specs.Frequency.{phases, phasesFrom, firstLeaving, phaseRefusal, differences, frequencyRefusal}
+use Rattle.record.specs.declared.Refusal.{Refusal}
+use Rattle.record.proofs.RangeLaws.{sample-bounded}
+use Rattle.record.proofs.RefusalLaws.{all-in-range, unrefused-in-range, in-range-bounded}
+
+-- ---- one reading more, tested against the ends -(low + 1) and high
+
+module _ (x y : ℤ) (in-range : natAbs x ≤ 2 ^ 40) (fits : SFits w64 y) where
+  -- a reading beyond 2^41 takes any phase out of its range
+  beyond-leaves : 2 ^ 41 < natAbs y → inRange (x +ℤ y) ≡ false
+  unfolding inRange
+  beyond-leaves beyond =
+      lt-leb (natAbs (x +ℤ y)) (2 ^ 40) (omega (arith, +ℤ-parts x y, one-part y, size-is x, size-is y, size-is (x +ℤ y)))
+
+  pub below-leaves : (low : ℕ) → 2 ^ 41 ≤ low + 1 → low < 2 ^ 63 → ltZ (machine w64 ($ y)) (negsuc low) ≡ true → inRange (x +ℤ y) ≡ false
+  below-leaves low far fit t = beyond-leaves (omega (arith, size-is y, lt-taken w64 ($ y) (± negsuc low) fits (omega arith) t))
+
+  pub above-leaves : (high : ℕ) → 2 ^ 41 ≤ high → high < 2 ^ 63 → ltZ (pos high) (machine w64 ($ y)) ≡ true → inRange (x +ℤ y) ≡ false
+  above-leaves high far fit t = beyond-leaves (omega (arith, size-is y, lt-taken w64 (± pos high) ($ y) (omega arith) fits t))
+
+  -- any other is added in a word
+  pub between-fits : (low high : ℕ) → low < 2 ^ 62 → high < 2 ^ 62 → ltZ (machine w64 ($ y)) (negsuc low) ≡ false →
+      ltZ (pos high) (machine w64 ($ y)) ≡ false → Fit w64 ($ x ⊕ $ y)
+  between-fits low high fit fit′ t u =
+      omega (arith, size-is x, lt-left w64 ($ y) (± negsuc low) fits (omega arith) t, lt-left w64 (± pos high) ($ y) (omega arith) fits u)
+
+-- ---- the running phase
+
+-- the sum of the first i readings
+abbrev pub running : List ℤ → ℕ → ℤ
+running ys i = sumℤ i (at ys)
+
+-- the phases that the readings lead to: all but the first
+abbrev pub later : List ℤ → List ℤ
+later ys = drop 1 (phases ys)
+
+module _ (ys : List ℤ) where
+  pub phases-length : length (phases ys) ≡ length ys + 1
+  unfolding phases phasesFrom
+  phases-length = tabulate-length _ _
+
+  pub phase-is : (i : ℕ) → i ≤ length ys → at (phases ys) i ≡ running ys i
+  unfolding phases phasesFrom
+  phase-is i h = tabulate-entry (length ys + 1) (λ k. pos 0 +ℤ running ys k) (pos 0) i (omega arith) ∙ +ℤ-idl (running ys i)
+
+  pub later-length : length (later ys) ≡ length ys
+  later-length = omega (arith, length-drop 1 (phases ys), phases-length)
+
+  pub later-is : (i : ℕ) → i < length ys → at (later ys) i ≡ running ys i +ℤ at ys i
+  later-is i h =
+      let next : 1 + i ≡ i + 1 = omega arith in
+      getD-drop 1 (phases ys) i (pos 0) ∙ phase-is (1 + i) (omega arith) ∙ ap (running ys) next ∙ sumℤ-step i (at ys)
+
+-- ---- one turn of a loop that adds a reading: s is the running phase's bits
+
+-- the phase with one reading more
+abbrev pub grown : List ℤ → ℕ → ℕ → Expression
+grown ys i s = s ∋ running ys i ⊕ $ at ys i
+
+module _ (ys : List ℤ) (i s : ℕ) (in-range : natAbs (running ys i) ≤ 2 ^ 40) (s-is : s ≡ ofZ w64 (running ys i))
+    (stays : inRange (running ys i +ℤ at ys i) ≡ true) where
+  grows-in-range : natAbs (running ys (i + 1)) ≤ 2 ^ 40
+  grows-in-range = rw (sumℤ-step i (at ys)) (sample-bounded _ stays)
+
+  grows-fits : Fit w64 (grown ys i s)
+  grows-fits =
+      let x = running ys i in
+      let y = at ys i in
+      let next = x +ℤ y in
+      omega (arith, s-is, sample-bounded next stays, +ℤ-parts x y, one-part x, one-part y, one-part next, size-is x, size-is y, size-is next)
+
+  grows : ofZ w64 (result w64 (grown ys i s)) ≡ ofZ w64 (running ys (i + 1))
+  grows = ap (ofZ w64) (result-is w64 (grown ys i s) grows-fits ∙ sym (sumℤ-step i (at ys)))
+
+-- ---- the first reading whose phase leaves the range
+
+-- what the search knows after i readings
+pub record NoneLeft (ys : List ℤ) (s i : ℕ) : Type 0 where
+  pub within : i ≤ length ys
+  pub in-range : natAbs (running ys i) ≤ 2 ^ 40
+  pub phase : s ≡ ofZ w64 (running ys i)
+  pub none-left : firstLeaving ys ≡ i + firstFailing inRange (drop i (later ys))
+
+pub none-left-yet : (ys : List ℤ) → NoneLeft ys 0 0
+unfolding firstLeaving
+none-left-yet ys = record {
+  within = omega arith;
+  in-range = rw sumℤ-zero (omega arith);
+  phase = ap (ofZ w64) (sym (sumℤ-zero (at ys)));
+  none-left = omega arith;
+}
+
+module _ {ys : List ℤ} {s i : ℕ} (so-far : NoneLeft ys s i) where
+  pub phase-so-far : natAbs (toZ w64 s) ≤ 2 ^ 40
+  phase-so-far = rw (machine-is w64 (s ∋ running ys i) (so-far .phase, small-fits (running ys i) (omega arith))) (so-far .in-range)
+
+  -- what the test of a loaded reading tells
+  pub reading-tells : mag (at ys i) < 2 ^ 63 → {answer b : Bool} → answer ≡ inRange (argument w64 (grown ys i s)) → answer ≡ b →
+      inRange (running ys i +ℤ at ys i) ≡ b
+  reading-tells fits e t =
+      let known : LeavesFit w64 (grown ys i s) = ((so-far .phase, small-fits (running ys i) (omega arith)), record { sfits = fits }) in
+      ap inRange (sym (argument-is w64 (grown ys i s) known)) ∙ sym e ∙ t
+
+  pub staying-fits : inRange (running ys i +ℤ at ys i) ≡ true → Fit w64 (grown ys i s)
+  staying-fits = grows-fits ys i s (so-far .in-range) (so-far .phase)
+
+  module _ (inside : i < length ys) where
+    pub stays-on : inRange (running ys i +ℤ at ys i) ≡ true → NoneLeft ys (ofZ w64 (result w64 (grown ys i s))) (i + 1)
+    unfolding firstLeaving
+    stays-on stays = record {
+      within = omega arith;
+      in-range = grows-in-range ys i s (so-far .in-range) (so-far .phase) stays;
+      phase = grows ys i s (so-far .in-range) (so-far .phase) stays;
+      none-left = search-goes-on inRange (pos 0) (later ys) i (omega (arith, later-length ys)) (so-far .none-left) (rw (later-is ys i inside) stays);
+    }
+
+    pub leaves-here : inRange (running ys i +ℤ at ys i) ≡ false → firstLeaving ys ≡ i
+    unfolding firstLeaving
+    leaves-here leaves =
+        search-ends-here inRange (pos 0) (later ys) i (omega (arith, later-length ys)) (so-far .none-left) (rw (later-is ys i inside) leaves)
+
+  pub none-leaves : i ≡ length ys → firstLeaving ys ≡ i
+  unfolding firstLeaving
+  none-leaves whole =
+      let end : i ≡ length (later ys) = omega (arith, later-length ys) in
+      search-ends inRange (later ys) i end (so-far .none-left) ∙ sym end
+
+-- ---- the phases where no reading leaves the range
+
+pub no-reading-leaves : (ys : List ℤ) → length ys ≤ firstLeaving ys → firstLeaving ys ≡ length ys
+unfolding firstLeaving
+no-reading-leaves ys h = omega (arith, first-failing-within inRange (later ys), later-length ys)
+
+module _ (ys : List ℤ) (stay : firstLeaving ys ≡ length ys) where
+  pub reading-stays : (i : ℕ) → i < length ys → inRange (running ys i +ℤ at ys i) ≡ true
+  unfolding firstLeaving
+  reading-stays i h =
+      let all = all-pass inRange (pos 0) (later ys) (stay ∙ sym (later-length ys)) in
+      rw (later-is ys i h) at (all i (omega (arith, later-length ys)))
+
+  pub phase-in-range : (i : ℕ) → i ≤ length ys → natAbs (running ys i) ≤ 2 ^ 40
+  phase-in-range zero h = rw sumℤ-zero (omega arith)
+  phase-in-range (suc i) h = rw (sumℤ-suc i (at ys)) (sample-bounded _ (reading-stays i (omega arith)))
+
+-- what the loop knows with i phases written at the front of the buffer
+pub record PhasesWritten (ys before now : List ℤ) (s i : ℕ) : Type 0 where
+  pub within : i ≤ length ys
+  pub phase : s ≡ ofZ w64 (running ys i)
+  pub same-length : length now ≡ length before
+  pub front : now ≡ writtenSoFar i (phases ys) before
+
+pub no-phase-written : (ys before : List ℤ) → PhasesWritten ys before before 0 0
+no-phase-written ys before =
+    record { within = omega arith; phase = ap (ofZ w64) (sym (sumℤ-zero (at ys))); same-length = refl; front = refl }
+
+module _ {ys before now : List ℤ} {s i : ℕ} (stay : firstLeaving ys ≡ length ys) (room : length ys < length before)
+    (so-far : PhasesWritten ys before now s i) where
+  phase-here : natAbs (running ys i) ≤ 2 ^ 40
+  phase-here = phase-in-range ys stay i (so-far .within)
+
+  phase-stored : set now i (toZ w64 s) ≡ writtenSoFar (i + 1) (phases ys) before
+  phase-stored =
+      let fits : SFits w64 (running ys i) = small-fits (running ys i) (omega (arith, phase-here)) in
+      let read : toZ w64 s ≡ running ys i = machine-is w64 (s ∋ running ys i) (so-far .phase, fits) in
+      let inside : i < length (phases ys) = omega (arith, phases-length ys, so-far .within) in
+      written-one-more (phases ys) before i (pos 0) inside (omega (arith, so-far .within)) (so-far .front) (read ∙ sym (phase-is ys i (so-far .within)))
+
+  module _ (inside : i < length ys) where
+    pub next-phase-fits : Fit w64 (grown ys i s)
+    next-phase-fits = grows-fits ys i s phase-here (so-far .phase) (reading-stays ys stay i inside)
+
+    pub one-phase-more : PhasesWritten ys before (set now i (toZ w64 s)) (ofZ w64 (result w64 (grown ys i s))) (i + 1)
+    one-phase-more = record {
+      within = omega arith;
+      phase = grows ys i s phase-here (so-far .phase) (reading-stays ys stay i inside);
+      same-length = length-set now i (toZ w64 s) ∙ so-far .same-length;
+      front = phase-stored;
+    }
+
+  pub all-phases-written : i ≡ length ys → set now i (toZ w64 s) ≡ written (phases ys) before
+  all-phases-written whole = phase-stored ∙ written-whole (phases ys) before (i + 1) (omega (arith, phases-length ys))
+
+-- ---- the differences of a record in range
+
+-- the difference of two samples, as an expression
+abbrev pub differenceOf : List ℤ → ℕ → ℕ → Expression
+differenceOf xs k i = $ at xs k ⊖ $ at xs i
+
+module _ (xs : List ℤ) where
+  pub differences-length : length (differences xs) ≡ length xs - 1
+  unfolding differences
+  differences-length = tabulate-length _ _
+
+  pub difference-is : (i : ℕ) → i + 1 < length xs → at (differences xs) i ≡ at xs (i + 1) -ℤ at xs i
+  unfolding differences
+  difference-is i h = tabulate-entry (length xs - 1) (λ k. at xs (k + 1) -ℤ at xs k) (pos 0) i (omega arith)
+
+  pub difference-fits : rangeRefusal xs ≡ none → (k i : ℕ) → Fit w64 (differenceOf xs k i)
+  difference-fits unrefused k i =
+      let bounded = in-range-bounded xs (unrefused-in-range xs (ap (λ (r : Refusal). r .number) unrefused)) in
+      omega (arith, bounded k, bounded i, size-is (at xs k), size-is (at xs i))
+
+  pub difference-stored : rangeRefusal xs ≡ none → (before : List ℤ) (i : ℕ) → i + 1 < length xs → i < length before → {now : List ℤ} →
+      now ≡ writtenSoFar i (differences xs) before → set now i (machine w64 (differenceOf xs (i + 1) i)) ≡ writtenSoFar (i + 1) (differences xs) before
+  difference-stored unrefused before i inside room front =
+      written-one-more (differences xs) before i (pos 0) (omega (arith, differences-length)) room front
+      (machine-is w64 (differenceOf xs (i + 1) i) (difference-fits unrefused (i + 1) i) ∙ sym (difference-is i inside))
+
+  pub all-differences-written : (before : List ℤ) (i : ℕ) → i ≡ length xs - 1 → writtenSoFar i (differences xs) before ≡ written (differences xs) before
+  all-differences-written before i whole = written-whole (differences xs) before i (omega (arith, differences-length))
+
+-- ---- 2, 6, 3: the refusal of phase from frequency, with a buffer of so many entries
+
+module _ (ys : List ℤ) (room : ℕ) where
+  pub readings-too-many : 32767 < length ys → phaseRefusal ys room ≡ refused 2 0
+  unfolding phaseRefusal
+  readings-too-many h = simp (lt-ltb 32767 (length ys) h)
+
+  module _ (few : length ys ≤ 32767) where
+    pub no-room-for-phases : room < length ys + 1 → phaseRefusal ys room ≡ refused 6 0
+    unfolding phaseRefusal
+    no-room-for-phases h = simp (le-ltb 32767 (length ys) few, lt-ltb room (length ys + 1) h)
+
+    module _ (enough : length ys + 1 ≤ room) where
+      pub reading-leaves : (i : ℕ) → i < length ys → i ≡ firstLeaving ys → phaseRefusal ys room ≡ refused 3 i
+      unfolding phaseRefusal
+      reading-leaves i h e =
+          simp (le-ltb 32767 (length ys) few, le-ltb room (length ys + 1) enough, sym e, lt-ltb i (length ys) h)
+
+      pub phases-unrefused : firstLeaving ys ≡ length ys → phaseRefusal ys room ≡ none
+      unfolding phaseRefusal
+      phases-unrefused e =
+          simp (le-ltb 32767 (length ys) few, le-ltb room (length ys + 1) enough, e, le-ltb (length ys) (length ys) (omega arith))
+
+-- ---- 2, 1, 6, 3: the refusal of frequency from phase
+
+module _ (xs : List ℤ) (room : ℕ) where
+  pub samples-too-many : 32768 < length xs → frequencyRefusal xs room ≡ refused 2 0
+  unfolding frequencyRefusal
+  samples-too-many h = simp (lt-ltb 32768 (length xs) h)
+
+  module _ (few : length xs ≤ 32768) where
+    pub no-sample : length xs ≡ 0 → frequencyRefusal xs room ≡ refused 1 0
+    unfolding frequencyRefusal
+    no-sample e = simp (le-ltb 32768 (length xs) few, eq-eqb (length xs) 0 e)
+
+    module _ (some : length xs ≡ 0 → ⊥) where
+      pub no-room-for-differences : room < length xs - 1 → frequencyRefusal xs room ≡ refused 6 0
+      unfolding frequencyRefusal
+      no-room-for-differences h = simp (le-ltb 32768 (length xs) few, ne-eqb (length xs) 0 some, lt-ltb room (length xs - 1) h)
+
+      pub range-decides : length xs - 1 ≤ room → frequencyRefusal xs room ≡ rangeRefusal xs
+      unfolding frequencyRefusal
+      range-decides h = simp (le-ltb 32768 (length xs) few, ne-eqb (length xs) 0 some, le-ltb room (length xs - 1) h)
+
+pub unrefused-range-none : (xs : List ℤ) → rangeRefusal xs .number ≡ 0 → rangeRefusal xs ≡ none
+unrefused-range-none xs e = all-in-range xs (none-fails inRange (pos 0) xs (unrefused-in-range xs e))

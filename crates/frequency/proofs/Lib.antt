@@ -1,0 +1,3 @@
+pub mod FrequencyLaws
+pub mod RoundTrip
+pub mod Unique

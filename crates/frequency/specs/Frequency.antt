@@ -1,0 +1,57 @@
+-- Phase from frequency and back.
+use mathlib.Core.List.{List}
+use Prim.Native.Nat.{ℕ, _+_, _-_}
+use lib.Dec.{ltb, eqb}
+use lib.IntN.{ℤ, pos, _+ℤ_, _-ℤ_}
+use lib.ListN.{length, drop}
+use Rattle.laws.specs.Lists.{at, tabulate, firstFailing}
+use Rattle.laws.specs.Sums.{sumℤ}
+use Rattle.record.specs.Refusals.{refusedIf, _then_, inRange, rangeRefusal}
+use Rattle.record.specs.Answers.{countAnswer, bufferLeft}
+use Rattle.record.specs.declared.Refusal.{Refusal}
+use Rattle.record.specs.declared.CountAnswer.{CountAnswer}
+
+-- phases start at x and each reading is added: M readings give M+1 phases
+unfoldable pub phasesFrom : ℤ → List ℤ → List ℤ
+phasesFrom x ys = tabulate (length ys + 1) (λ i. x +ℤ sumℤ i (at ys))
+
+-- phases start at 0
+unfoldable pub phases : List ℤ → List ℤ
+phases ys = phasesFrom (pos 0) ys
+
+-- the first reading whose running phase leaves the sample range; the number of readings where none does
+unfoldable pub firstLeaving : List ℤ → ℕ
+firstLeaving ys = firstFailing inRange (drop 1 (phases ys))
+
+-- 2 over 32,767 readings; 6 where the buffer is shorter than M+1; 3 at that reading
+unfoldable pub phaseRefusal : List ℤ → ℕ → Refusal
+phaseRefusal ys room =
+    refusedIf (ltb 32767 (length ys)) 2 0
+    then refusedIf (ltb room (length ys + 1)) 6 0
+    then refusedIf (ltb (firstLeaving ys) (length ys)) 3 (firstLeaving ys)
+
+-- M+1, and the phases in the buffer
+abbrev pub phaseAnswer : List ℤ → ℕ → CountAnswer
+phaseAnswer ys room = countAnswer (phaseRefusal ys room) (length ys + 1)
+
+abbrev pub phaseBuffer : List ℤ → List ℤ → List ℤ
+phaseBuffer ys buffer = bufferLeft (phaseRefusal ys (length buffer)) (phases ys) buffer
+
+-- N samples give N-1 differences
+unfoldable pub differences : List ℤ → List ℤ
+differences xs = tabulate (length xs - 1) (λ i. at xs (i + 1) -ℤ at xs i)
+
+-- 2 over 32,768 samples; 1 for none; 6 where the buffer is shorter than N-1; 3 at the lowest index
+unfoldable pub frequencyRefusal : List ℤ → ℕ → Refusal
+frequencyRefusal xs room =
+    refusedIf (ltb 32768 (length xs)) 2 0
+    then refusedIf (eqb (length xs) 0) 1 0
+    then refusedIf (ltb room (length xs - 1)) 6 0
+    then rangeRefusal xs
+
+-- N-1, and the differences in the buffer
+abbrev pub frequencyAnswer : List ℤ → ℕ → CountAnswer
+frequencyAnswer xs room = countAnswer (frequencyRefusal xs room) (length xs - 1)
+
+abbrev pub frequencyBuffer : List ℤ → List ℤ → List ℤ
+frequencyBuffer xs buffer = bufferLeft (frequencyRefusal xs (length buffer)) (differences xs) buffer

@@ -1,0 +1,121 @@
+// Phase from frequency and back, into lent buffers. Nothing is written where a call is refused.
+use record::CountAnswer;
+ghost use mathlib.Core.Path.{_≡_};
+ghost use Prim.Native.Nat.{_+_, _-_, _≤_, _<_, _^_};
+ghost use lib.IntN.{natAbs, _+ℤ_};
+ghost use lib.ListN.{length};
+ghost use Rattle.laws.specs.Lists.{written};
+ghost use Rattle.record.specs.Refusals.{none, inRange, rangeRefusal};
+ghost use Rattle.frequency.specs.Frequency.{phases, firstLeaving, phaseAnswer, phaseBuffer, differences, frequencyAnswer, frequencyBuffer};
+
+// Phases from readings: M readings give M + 1 phases, the first of them 0. Refuses 2, 6, then 3 at the first reading whose running phase leaves
+// the sample range.
+pub fn phase_from_frequency(readings: &[i64], buffer: &mut [i64]) -> CountAnswer
+    ensures { λ r. ⌜ (r ≡ phaseAnswer (now (readings .entry)) (length (now (buffer .entry)))) × (now (buffer .exit) ≡ phaseBuffer (now (readings .entry)) (now (buffer .entry))) ⌝ }
+{
+    let count = readings.len();
+    if record::MOST_READINGS < count as u64 {
+        return record::refused_count(record::TOO_MANY, 0);
+    }
+    if buffer.len() < count + 1 {
+        return record::refused_count(record::NO_ROOM, 0);
+    }
+    let leaving = first_leaving(readings);
+    if leaving < count {
+        return record::refused_count(record::OUT_OF_RANGE, leaving as u64);
+    }
+    write_phases(readings, buffer);
+    CountAnswer {
+        number: 0,
+        place: 0,
+        count: count as u64 + 1,
+    }
+}
+
+// Readings from phases: N samples give N - 1 differences. Refuses 2, 1, 6, then 3 at the lowest index.
+pub fn frequency_from_phase(samples: &[i64], buffer: &mut [i64]) -> CountAnswer
+    ensures { λ r. ⌜ (r ≡ frequencyAnswer (now (samples .entry)) (length (now (buffer .entry)))) × (now (buffer .exit) ≡ frequencyBuffer (now (samples .entry)) (now (buffer .entry))) ⌝ }
+{
+    let count = samples.len();
+    if record::MOST_SAMPLES < count as u64 {
+        return record::refused_count(record::TOO_MANY, 0);
+    }
+    if count == 0 {
+        return record::refused_count(record::TOO_FEW, 0);
+    }
+    if buffer.len() < count - 1 {
+        return record::refused_count(record::NO_ROOM, 0);
+    }
+    let refusal = record::range_refusal(samples);
+    let number = refusal.number;
+    if number != 0 {
+        return record::refused_count(number, refusal.place);
+    }
+    write_differences(samples, buffer);
+    CountAnswer {
+        number: 0,
+        place: 0,
+        count: count as u64 - 1,
+    }
+}
+
+// The first reading whose running phase leaves the sample range, or the number of readings.
+fn first_leaving(readings: &[i64]) -> usize
+    ensures { λ r. ⌜ r ≡ firstLeaving (now (readings .entry)) ⌝ }
+{
+    let mut phase: i64 = 0;
+    let mut i: usize = 0;
+    while i < readings.len() {
+        let reading = readings[i];
+        if stays(phase, reading) {
+            phase = phase + reading;
+            i += 1;
+        } else {
+            return i;
+        }
+    }
+    i
+}
+
+// Whether a phase in range stays there with one reading more. A reading beyond 2^41 leaves it, and is not added.
+fn stays(phase: i64, reading: i64) -> bool
+    requires { ⌜ natAbs phase ≤ 2 ^ 40 ⌝ }
+    ensures { λ r. ⌜ r ≡ inRange (phase +ℤ reading) ⌝ }
+{
+    if reading < -record::LARGEST_FREQUENCY {
+        return false;
+    }
+    if record::LARGEST_FREQUENCY < reading {
+        return false;
+    }
+    record::in_range(phase + reading)
+}
+
+// The phases at the front of the buffer.
+fn write_phases(readings: &[i64], buffer: &mut [i64])
+    requires { ⌜ (firstLeaving (now readings) ≡ length (now readings)) × (length (now readings) < length (now buffer)) ⌝ }
+    ensures { λ r. ⌜ now (buffer .exit) ≡ written (phases (now (readings .entry))) (now (buffer .entry)) ⌝ }
+{
+    let mut phase: i64 = 0;
+    let mut i: usize = 0;
+    while i < readings.len() {
+        buffer[i] = phase;
+        phase = phase + readings[i];
+        i += 1;
+    }
+    buffer[i] = phase;
+}
+
+// The differences at the front of the buffer.
+fn write_differences(samples: &[i64], buffer: &mut [i64])
+    requires { ⌜ (rangeRefusal (now samples) ≡ none) × (length (now samples) ≤ length (now buffer) + 1) ⌝ }
+    ensures { λ r. ⌜ now (buffer .exit) ≡ written (differences (now (samples .entry))) (now (buffer .entry)) ⌝ }
+{
+    let mut i: usize = 0;
+    while i + 1 < samples.len() {
+        let here = samples[i];
+        let next = samples[i + 1];
+        buffer[i] = next - here;
+        i += 1;
+    }
+}

@@ -1,0 +1,45 @@
+-- What C cannot hand over, told in numbers: a dot is a kind and a double, a noise type is its alpha.
+use mathlib.Core.Bool.{false, cond}
+use Prim.Native.Nat.{ℕ, zero, suc}
+use lib.Dec.{eqb}
+use lib.IntN.{ℤ, pos, negsuc}
+use Rattle.plot.specs.Drawn.{plusZero}
+use Rattle.plot.specs.Dots.{dotValue}
+use Rattle.plot.specs.Noise.{alphaOf}
+use Rattle.plot.specs.Bars.{noBar, barsAnswer}
+use Rattle.plot.specs.declared.dots.Dot.{Dot}
+use Rattle.plot.specs.declared.dots.Dot.the-variants.{Drawn, Nought, TooFew}
+use Rattle.plot.specs.declared.dots.DotAnswer.{DotAnswer}
+use Rattle.plot.specs.declared.noise.Noise.the-variants.{WhitePhase, FlickerPhase, WhiteFrequency, FlickerFrequency, RandomWalkFrequency}
+use Rattle.plot.specs.declared.noise.NoiseAnswer.{NoiseAnswer}
+use Rattle.plot.specs.declared.bars.BarsAnswer.{BarsAnswer}
+use Rattle.ploegelster.specs.declared.drawing.ToldDot.{ToldDot}
+use Rattle.ploegelster.specs.declared.drawing.ToldNoise.{ToldNoise}
+
+-- the kind of a dot
+unfoldable pub dotKind : Dot → ℕ
+dotKind Nought = 0
+dotKind (Drawn v) = 1
+dotKind TooFew = 2
+
+-- an answer's dot as its kind and value
+unfoldable pub toldDot : DotAnswer → ToldDot
+toldDot a = record { number = a .number; place = a .place; kind = dotKind (a .dot); value = dotValue (a .dot) }
+
+-- an answer's type as its alpha; beside a refusal nought
+unfoldable pub toldNoise : NoiseAnswer → ToldNoise
+toldNoise a = record { number = a .number; place = a .place; alpha = cond (eqb (a .number) 0) (alphaOf (a .noise)) (pos 0) }
+
+-- an alpha that no type has is refused 3, before all else
+unfoldable pub noSuchType : BarsAnswer
+noSuchType = record { number = 3; place = 0; bar = noBar; touches = false }
+
+-- bars for noise of the type that has this alpha
+unfoldable pub barsByAlpha : ℕ → ℤ → ℕ → BarsAnswer
+barsByAlpha r (pos zero) m = barsAnswer r WhiteFrequency m
+barsByAlpha r (pos (suc zero)) m = barsAnswer r FlickerPhase m
+barsByAlpha r (pos (suc (suc zero))) m = barsAnswer r WhitePhase m
+barsByAlpha r (pos (suc (suc (suc n)))) m = noSuchType
+barsByAlpha r (negsuc zero) m = barsAnswer r FlickerFrequency m
+barsByAlpha r (negsuc (suc zero)) m = barsAnswer r RandomWalkFrequency m
+barsByAlpha r (negsuc (suc (suc n))) m = noSuchType
