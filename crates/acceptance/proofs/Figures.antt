@@ -8,11 +8,12 @@ use Rattle.record.specs.Refusals.{inRange, rangeRefusal, sizeRefusal, recordRef
 use Rattle.frequency.specs.Frequency.{phasesFrom, phases}
 use Rattle.drift.specs.Drift.{driftP, driftR, driftRefusal, driftAnswer, floored, withoutDrift}
 use Rattle.sums.specs.Published.{difference, allanCount, allanSum, allanDenominator, windowSum, modifiedCount, modifiedSum, timeDenominator}
-use Rattle.sums.specs.Fractions.{euclid, gcd, lowestTerms}
-use Rattle.sums.specs.Deviations.{deviation}
-use Rattle.sums.specs.Answers.{sumAnswer, allanSumAnswer, modifiedSumAnswer, figureRefusal, fractionAnswer, allanFractionAnswer, timeFractionAnswer, deviationRefusal, deviationAnswer, allanDeviationAnswer}
-use Rattle.plot.specs.Noise.{alphaOf, kappaOf, noiseOf, noiseRefusal, noiseAnswer, typeAnswer}
-use Rattle.plot.specs.Bars.{barWidth, barHalf}
+use Rattle.variances.specs.Fractions.{euclid, gcd, lowestTerms}
+use Rattle.variances.specs.Deviations.{deviation}
+use Rattle.sums.specs.Answers.{sumAnswer, allanSumAnswer, modifiedSumAnswer}
+use Rattle.variances.specs.Answers.{figureRefusal, fractionAnswer, allanFractionAnswer, timeFractionAnswer, deviationRefusal, deviationAnswer, allanDeviationAnswer}
+use Rattle.noise.specs.Noise.{alphaOf, kappaOf, noiseOf, noiseRefusal, noiseAnswer, typeAnswer}
+use Rattle.noise.specs.Bars.{barWidth, barHalf}
 use Rattle.acceptance.specs.Figures.{sameList, holds, failing, table}
 
 pub starred-figures : failing table ≡ []

@@ -8,13 +8,14 @@ use lib.Signed.{leZ}
 use lib.ListN.{length}
 use Rattle.frequency.specs.Frequency.{phases}
 use Rattle.drift.specs.Drift.{driftAnswer, withoutDrift}
-use Rattle.sums.specs.Answers.{allanSumAnswer, modifiedSumAnswer, allanFractionAnswer, timeFractionAnswer, allanDeviationAnswer}
+use Rattle.sums.specs.Answers.{allanSumAnswer, modifiedSumAnswer}
+use Rattle.variances.specs.Answers.{allanFractionAnswer, timeFractionAnswer, allanDeviationAnswer}
 use Rattle.sums.specs.declared.SumAnswer.{SumAnswer}
-use Rattle.sums.specs.declared.FractionAnswer.{FractionAnswer}
-use Rattle.plot.specs.Noise.{alphaOf, typeAnswer}
-use Rattle.plot.specs.Bars.{barHalf}
-use Rattle.plot.specs.declared.noise.Noise.{Noise}
-use Rattle.plot.specs.declared.noise.Noise.the-variants.{FlickerFrequency}
+use Rattle.variances.specs.declared.FractionAnswer.{FractionAnswer}
+use Rattle.noise.specs.Noise.{alphaOf, typeAnswer}
+use Rattle.noise.specs.Bars.{barHalf}
+use Rattle.noise.specs.declared.Noise.{Noise}
+use Rattle.noise.specs.declared.Noise.the-variants.{FlickerFrequency}
 
 -- what a row says
 pub data Figure : Type 0 where

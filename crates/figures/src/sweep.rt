@@ -2,9 +2,9 @@
 use crate::print::number;
 use crate::print::text;
 use crate::records;
-use sums::DeviationAnswer;
-use sums::FractionAnswer;
 use sums::SumAnswer;
+use variances::DeviationAnswer;
+use variances::FractionAnswer;
 use wide::Wide;
 
 pub fn figures() {
@@ -78,8 +78,8 @@ fn allan(answer: SumAnswer, m: u64) {
     }
     let sum = sum_of(answer);
     sum_and_count(sum, answer.count);
-    fraction(sums::allan_fraction(sum, m, answer.count));
-    deviation(sums::allan_deviation(sum, m, answer.count));
+    fraction(variances::allan_fraction(sum, m, answer.count));
+    deviation(variances::allan_deviation(sum, m, answer.count));
 }
 
 // The modified sum, its count, the time variance and its deviation.
@@ -92,8 +92,8 @@ fn modified(answer: SumAnswer, m: u64) {
     }
     let sum = sum_of(answer);
     sum_and_count(sum, answer.count);
-    fraction(sums::time_fraction(sum, m, answer.count));
-    deviation(sums::time_deviation(sum, m, answer.count));
+    fraction(variances::time_fraction(sum, m, answer.count));
+    deviation(variances::time_deviation(sum, m, answer.count));
 }
 
 // The sum in an answer.

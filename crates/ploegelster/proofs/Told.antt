@@ -7,11 +7,11 @@ use mir.Syntax.{w64}
 use mir.Val.{SFits, toZ, ofZ}
 use mir.ValLaws.{toZ-ofZ}
 use Rattle.plot.specs.Dots.{dotValue}
-use Rattle.plot.specs.Noise.{alphaOf}
+use Rattle.noise.specs.Noise.{alphaOf}
 use Rattle.plot.specs.declared.dots.Dot.{Dot}
 use Rattle.plot.specs.declared.dots.DotAnswer.{DotAnswer}
-use Rattle.plot.specs.declared.noise.Noise.{Noise}
-use Rattle.plot.specs.declared.noise.Noise.the-variants.{WhitePhase, FlickerPhase, WhiteFrequency, FlickerFrequency, RandomWalkFrequency}
+use Rattle.noise.specs.declared.Noise.{Noise}
+use Rattle.noise.specs.declared.Noise.the-variants.{WhitePhase, FlickerPhase, WhiteFrequency, FlickerFrequency, RandomWalkFrequency}
 use Rattle.ploegelster.specs.Boundary.{dotKind, toldDot, noSuchType, barsByAlpha}
 use Rattle.ploegelster.specs.declared.drawing.ToldDot.{ToldDot}
 

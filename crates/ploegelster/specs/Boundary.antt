@@ -5,14 +5,14 @@ use lib.Dec.{eqb}
 use lib.IntN.{ℤ, pos, negsuc}
 use Rattle.plot.specs.Drawn.{plusZero}
 use Rattle.plot.specs.Dots.{dotValue}
-use Rattle.plot.specs.Noise.{alphaOf}
-use Rattle.plot.specs.Bars.{noBar, barsAnswer}
+use Rattle.noise.specs.Noise.{alphaOf}
+use Rattle.noise.specs.Bars.{noBar, barsAnswer}
 use Rattle.plot.specs.declared.dots.Dot.{Dot}
 use Rattle.plot.specs.declared.dots.Dot.the-variants.{Drawn, Nought, TooFew}
 use Rattle.plot.specs.declared.dots.DotAnswer.{DotAnswer}
-use Rattle.plot.specs.declared.noise.Noise.the-variants.{WhitePhase, FlickerPhase, WhiteFrequency, FlickerFrequency, RandomWalkFrequency}
-use Rattle.plot.specs.declared.noise.NoiseAnswer.{NoiseAnswer}
-use Rattle.plot.specs.declared.bars.BarsAnswer.{BarsAnswer}
+use Rattle.noise.specs.declared.Noise.the-variants.{WhitePhase, FlickerPhase, WhiteFrequency, FlickerFrequency, RandomWalkFrequency}
+use Rattle.noise.specs.declared.NoiseAnswer.{NoiseAnswer}
+use Rattle.noise.specs.declared.bars.BarsAnswer.{BarsAnswer}
 use Rattle.ploegelster.specs.declared.drawing.ToldDot.{ToldDot}
 use Rattle.ploegelster.specs.declared.drawing.ToldNoise.{ToldNoise}
 

@@ -1,17 +1,17 @@
 // Drawn numbers, dots, noise types and bars.
-use plot::bars::Bar;
-use plot::bars::BarsAnswer;
+use noise::Noise;
+use noise::NoiseAnswer;
+use noise::bars::Bar;
+use noise::bars::BarsAnswer;
 use plot::dots::Dot;
 use plot::dots::DotAnswer;
 use plot::drawn::DrawnAnswer;
-use plot::noise::Noise;
-use plot::noise::NoiseAnswer;
 use wide::Wide;
 ghost use mathlib.Core.Path.{_≡_};
 ghost use Rattle.wide.specs.Wide.{value};
 ghost use Rattle.plot.specs.Drawn.{drawnAnswer};
 ghost use Rattle.plot.specs.Dots.{allanDotAnswer, timeDotAnswer};
-ghost use Rattle.plot.specs.Noise.{alphaOf, typeAnswer, recordTypeAnswer};
+ghost use Rattle.noise.specs.Noise.{alphaOf, typeAnswer, recordTypeAnswer};
 ghost use Rattle.ploegelster.specs.Boundary.{toldDot, toldNoise, noSuchType, barsByAlpha};
 
 // A dot as a kind, 0 nought, 1 drawn or 2 too few, and a double.
@@ -60,7 +60,7 @@ pub extern "C" fn plg_time_dot(sum: Wide, m: u64, count: u64) -> ToldDot
 pub extern "C" fn plg_noise_type(r1: u64, r2: u64) -> ToldNoise
     ensures { λ r. ⌜ r ≡ toldNoise (typeAnswer r1 r2) ⌝ }
 {
-    told_noise(plot::noise::noise_type(r1, r2))
+    told_noise(noise::noise_type(r1, r2))
 }
 
 // The noise type of a record at factor m.
@@ -68,7 +68,7 @@ pub extern "C" fn plg_noise_type(r1: u64, r2: u64) -> ToldNoise
 pub extern "C" fn plg_noise_of_record(samples: &[i64], m: u64) -> ToldNoise
     ensures { λ r. ⌜ r ≡ toldNoise (recordTypeAnswer m (now (samples .entry))) ⌝ }
 {
-    told_noise(plot::noise::noise_of_record(samples, m))
+    told_noise(noise::noise_of_record(samples, m))
 }
 
 // The bars of deviation r with noise of type alpha over M intervals. Refuses 3 for any other alpha, then as bars do.
@@ -77,19 +77,19 @@ pub extern "C" fn plg_bars(r: u64, alpha: i64, intervals: u64) -> BarsAnswer
     ensures { λ z. ⌜ z ≡ barsByAlpha r alpha intervals ⌝ }
 {
     if alpha == 2 {
-        return plot::bars::bars(r, Noise::WhitePhase, intervals);
+        return noise::bars::bars(r, Noise::WhitePhase, intervals);
     }
     if alpha == 1 {
-        return plot::bars::bars(r, Noise::FlickerPhase, intervals);
+        return noise::bars::bars(r, Noise::FlickerPhase, intervals);
     }
     if alpha == 0 {
-        return plot::bars::bars(r, Noise::WhiteFrequency, intervals);
+        return noise::bars::bars(r, Noise::WhiteFrequency, intervals);
     }
     if alpha == -1 {
-        return plot::bars::bars(r, Noise::FlickerFrequency, intervals);
+        return noise::bars::bars(r, Noise::FlickerFrequency, intervals);
     }
     if alpha == -2 {
-        return plot::bars::bars(r, Noise::RandomWalkFrequency, intervals);
+        return noise::bars::bars(r, Noise::RandomWalkFrequency, intervals);
     }
     no_such_type()
 }

@@ -1,11 +1,12 @@
 // The published sums, fractions and deviations.
-use sums::DeviationAnswer;
-use sums::FractionAnswer;
 use sums::SumAnswer;
+use variances::DeviationAnswer;
+use variances::FractionAnswer;
 use wide::Wide;
 ghost use mathlib.Core.Path.{_≡_};
 ghost use Rattle.wide.specs.Wide.{value};
-ghost use Rattle.sums.specs.Answers.{allanSumAnswer, modifiedSumAnswer, allanFractionAnswer, timeFractionAnswer, allanDeviationAnswer, timeDeviationAnswer};
+ghost use Rattle.sums.specs.Answers.{allanSumAnswer, modifiedSumAnswer};
+ghost use Rattle.variances.specs.Answers.{allanFractionAnswer, timeFractionAnswer, allanDeviationAnswer, timeDeviationAnswer};
 
 // The Allan sum A with its count K.
 #[no_mangle]
@@ -28,7 +29,7 @@ pub extern "C" fn plg_modified_sum(samples: &[i64], m: u64) -> SumAnswer
 pub extern "C" fn plg_allan_fraction(sum: Wide, m: u64, count: u64) -> FractionAnswer
     ensures { λ r. ⌜ r ≡ allanFractionAnswer (value sum) m count ⌝ }
 {
-    sums::allan_fraction(sum, m, count)
+    variances::allan_fraction(sum, m, count)
 }
 
 // The time variance in lowest terms.
@@ -36,7 +37,7 @@ pub extern "C" fn plg_allan_fraction(sum: Wide, m: u64, count: u64) -> FractionA
 pub extern "C" fn plg_time_fraction(sum: Wide, m: u64, count: u64) -> FractionAnswer
     ensures { λ r. ⌜ r ≡ timeFractionAnswer (value sum) m count ⌝ }
 {
-    sums::time_fraction(sum, m, count)
+    variances::time_fraction(sum, m, count)
 }
 
 // The deviation of the Allan variance.
@@ -44,7 +45,7 @@ pub extern "C" fn plg_time_fraction(sum: Wide, m: u64, count: u64) -> FractionAn
 pub extern "C" fn plg_allan_deviation(sum: Wide, m: u64, count: u64) -> DeviationAnswer
     ensures { λ r. ⌜ r ≡ allanDeviationAnswer (value sum) m count ⌝ }
 {
-    sums::allan_deviation(sum, m, count)
+    variances::allan_deviation(sum, m, count)
 }
 
 // The deviation of the time variance.
@@ -52,5 +53,5 @@ pub extern "C" fn plg_allan_deviation(sum: Wide, m: u64, count: u64) -> Deviatio
 pub extern "C" fn plg_time_deviation(sum: Wide, m: u64, count: u64) -> DeviationAnswer
     ensures { λ r. ⌜ r ≡ timeDeviationAnswer (value sum) m count ⌝ }
 {
-    sums::time_deviation(sum, m, count)
+    variances::time_deviation(sum, m, count)
 }

@@ -10,10 +10,10 @@ use Rattle.record.specs.Refusals.{refused, _then_}
 use Rattle.record.specs.declared.Refusal.{Refusal}
 use Rattle.record.proofs.RefusalLaws.{refusal-stands, none-gives-way}
 use Rattle.sums.specs.Published.{allanDenominator, timeDenominator}
-use Rattle.sums.specs.Deviations.{deviation}
-use Rattle.sums.specs.Answers.{figureRefusal, deviationRefusal, deviationAnswer, allanDeviationAnswer, timeDeviationAnswer}
-use Rattle.sums.specs.declared.DeviationAnswer.{DeviationAnswer}
-use Rattle.sums.proofs.AnswerLaws.{noDeviation, largeRefusal, above-refused, not-above-given, deviation-refused, allan-deviation-refused, time-deviation-refused}
+use Rattle.variances.specs.Deviations.{deviation}
+use Rattle.variances.specs.Answers.{figureRefusal, deviationRefusal, deviationAnswer, allanDeviationAnswer, timeDeviationAnswer}
+use Rattle.variances.specs.declared.DeviationAnswer.{DeviationAnswer}
+use Rattle.variances.proofs.AnswerLaws.{noDeviation, largeRefusal, above-refused, not-above-given, deviation-refused, allan-deviation-refused, time-deviation-refused}
 use Rattle.plot.specs.Drawn.{plusZero, drawnNumber}
 use Rattle.plot.specs.Dots.{dotNumber, dotValue, dotOf, dotAnswer, allanDotAnswer, timeDotAnswer}
 use Rattle.plot.specs.declared.dots.Dot.{Dot}

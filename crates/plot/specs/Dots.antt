@@ -3,8 +3,8 @@ use mathlib.Core.Bool.{cond}
 use Prim.Native.Nat.{ℕ}
 use lib.Dec.{eqb}
 use lib.Ieee.{Float}
-use Rattle.sums.specs.Answers.{allanDeviationAnswer, timeDeviationAnswer}
-use Rattle.sums.specs.declared.DeviationAnswer.{DeviationAnswer}
+use Rattle.variances.specs.Answers.{allanDeviationAnswer, timeDeviationAnswer}
+use Rattle.variances.specs.declared.DeviationAnswer.{DeviationAnswer}
 use Rattle.plot.specs.Drawn.{plusZero, drawnNumber}
 use Rattle.plot.specs.declared.dots.Dot.{Dot}
 use Rattle.plot.specs.declared.dots.Dot.the-variants.{Drawn, Nought, TooFew}

@@ -1,5 +1,2 @@
 pub mod Drawn
 pub mod Dots
-pub mod Noise
-pub mod NoiseOrder
-pub mod Bars

@@ -1,6 +1,6 @@
 // Plot dots: a drawn number, or nought, or too few.
 use crate::drawn::draw;
-use sums::DeviationAnswer;
+use variances::DeviationAnswer;
 use wide::Wide;
 ghost use mathlib.Core.Path.{_≡_};
 ghost use Prim.Native.Nat.{_≤_, _^_};
@@ -25,14 +25,14 @@ pub struct DotAnswer {
 pub fn allan_dot(sum: Wide, m: u64, count: u64) -> DotAnswer
     ensures { λ r. ⌜ r ≡ allanDotAnswer (value sum) m count ⌝ }
 {
-    dot_of(sums::allan_deviation(sum, m, count))
+    dot_of(variances::allan_deviation(sum, m, count))
 }
 
 // The dot of a time deviation. Refuses 5, 2, 3; a count of 0 is too few.
 pub fn time_dot(sum: Wide, m: u64, count: u64) -> DotAnswer
     ensures { λ r. ⌜ r ≡ timeDotAnswer (value sum) m count ⌝ }
 {
-    dot_of(sums::time_deviation(sum, m, count))
+    dot_of(variances::time_deviation(sum, m, count))
 }
 
 // The dot of a deviation's answer.

@@ -1,5 +1,3 @@
-// What the app draws: numbers as doubles, dots, noise types and error bars. Sums and deviations are those of crate sums.
-pub mod bars;
+// What the app draws: numbers as doubles, and dots. Deviations are those of crate variances; noise types and bars are left to others.
 pub mod dots;
 pub mod drawn;
-pub mod noise;

@@ -1,10 +1,6 @@
-pub mod FractionLaws
-pub mod DeviationLaws
-pub mod FigureLaws
 pub mod PublishedLaws
 pub mod TotalLaws
 pub mod AnswerLaws
-pub mod Unique
 pub mod Shifted
 pub mod Variances
-pub mod Bounds
+pub mod Unique

@@ -1,4 +1,2 @@
 pub mod Published
-pub mod Fractions
-pub mod Deviations
 pub mod Answers

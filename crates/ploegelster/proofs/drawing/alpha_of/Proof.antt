@@ -1,7 +1,7 @@
 -- `ploegelster::drawing::alpha_of` meets its contract: each arm is a line of the table.
 use borrow.Author.Needs.{needs}
 use mathlib.Core.Path.{sym, ap}
-use Rattle.plot.specs.Noise.{alphaOf}
+use Rattle.noise.specs.Noise.{alphaOf}
 use Rattle.ploegelster.proofs.drawing.alpha_of.Statement.{statement}
 use Rattle.ploegelster.proofs.drawing.alpha_of.Tie as tie
 

@@ -1,7 +1,7 @@
 -- `ploegelster::drawing::no_such_type` meets its contract.
 use mathlib.Core.Path.{refl}
 use lib.Ieee
-use Rattle.plot.specs.Bars.{noBar}
+use Rattle.noise.specs.Bars.{noBar}
 use Rattle.ploegelster.specs.Boundary.{noSuchType}
 use Rattle.ploegelster.proofs.drawing.no_such_type.Statement.{statement}
 use Rattle.ploegelster.proofs.drawing.no_such_type.Tie as tie

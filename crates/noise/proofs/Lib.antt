@@ -1,0 +1,4 @@
+pub mod Tables
+pub mod NoiseLaws
+pub mod BarLaws
+pub mod Unique

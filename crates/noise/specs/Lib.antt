@@ -1,0 +1,3 @@
+pub mod Noise
+pub mod NoiseOrder
+pub mod Bars

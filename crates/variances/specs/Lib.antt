@@ -1,0 +1,3 @@
+pub mod Fractions
+pub mod Deviations
+pub mod Answers
