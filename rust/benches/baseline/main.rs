@@ -1,0 +1,115 @@
+//! The library's time against straightforward Rust, as ratios of one run. Both sides work in turn, and the medians of many turns are compared.
+
+mod straightforward;
+
+use ploegelster::independent::file::{file_of, Kind};
+use std::hint::black_box;
+use std::time::Instant;
+
+const LENGTH: usize = 32_768;
+const TURNS: usize = 1_001;
+
+/// Samples of the whole range, from a fixed rule.
+fn samples() -> Vec<i64> {
+    let mut state = 1u64;
+    let mut next = || {
+        state = state.wrapping_mul(6_364_136_223_846_793_005).wrapping_add(1_442_695_040_888_963_407);
+        (state >> 23) as i64 - (1 << 40)
+    };
+    (0..LENGTH).map(|_| next()).collect()
+}
+
+fn nanoseconds<T>(work: &mut impl FnMut() -> T) -> u64 {
+    let start = Instant::now();
+    black_box(work());
+    start.elapsed().as_nanos() as u64
+}
+
+/// The median turn's time for one value.
+fn median_of_one(mut times: Vec<u64>) -> f64 {
+    times.sort();
+    times[times.len() / 2] as f64 / LENGTH as f64
+}
+
+/// Times both sides in turn and prints a line: the medians, and their ratio.
+fn compare<T, U>(work: &str, m: u64, mut library: impl FnMut() -> T, mut plain: impl FnMut() -> U) {
+    let (mut ours, mut theirs) = (Vec::new(), Vec::new());
+    for turn in 0..TURNS {
+        if turn % 2 == 0 {
+            ours.push(nanoseconds(&mut library));
+            theirs.push(nanoseconds(&mut plain));
+        } else {
+            theirs.push(nanoseconds(&mut plain));
+            ours.push(nanoseconds(&mut library));
+        }
+    }
+    let (ours, theirs) = (median_of_one(ours), median_of_one(theirs));
+    let factor = if m == 0 { String::new() } else { m.to_string() };
+    println!("| {work} | {factor} | {ours:.2} | {theirs:.2} | {:.2} |", ours / theirs);
+}
+
+fn wide(high: u64, low: u64) -> u128 {
+    (high as u128) << 64 | low as u128
+}
+
+fn sums(samples: &[i64], m: u64) {
+    let (ours, theirs) = (ploegelster::allan_sum(samples, m), straightforward::allan_sum(samples, m));
+    assert_eq!(Ok((wide(ours.high, ours.low), ours.count)), theirs);
+    compare("Allan sum", m, || ploegelster::allan_sum(black_box(samples), m), || straightforward::allan_sum(black_box(samples), m));
+
+    let (ours, theirs) = (ploegelster::modified_sum(samples, m), straightforward::modified_sum(samples, m));
+    assert_eq!(Ok((wide(ours.high, ours.low), ours.count)), theirs);
+    compare("modified sum", m, || ploegelster::modified_sum(black_box(samples), m), || straightforward::modified_sum(black_box(samples), m));
+}
+
+/// A whole stream through the library's meter.
+fn library_stream(samples: &[i64], m: u64, ring: &mut [i64]) -> ploegelster::Meter {
+    let mut meter = ploegelster::meter_start(ploegelster::Meter::NOUGHTS, m, ring).meter;
+    for &x in samples {
+        let answer = ploegelster::meter_sample(meter, ring, x);
+        assert_eq!(answer.number, 0);
+        meter = answer.meter;
+    }
+    meter
+}
+
+fn plain_stream(samples: &[i64], m: u64, ring: &mut [i64]) -> straightforward::Meter {
+    let mut meter = straightforward::Meter { m, n: 0, a: 0, b: 0, window: 0 };
+    for &x in samples {
+        meter = straightforward::sample(meter, ring, x).expect("a sample in range is taken");
+    }
+    meter
+}
+
+fn meter(samples: &[i64], m: u64) {
+    let (mut ring, mut plain_ring) = (vec![0; 3 * m as usize], vec![0; 3 * m as usize]);
+    let (ours, theirs) = (library_stream(samples, m, &mut ring), plain_stream(samples, m, &mut plain_ring));
+    assert_eq!((wide(ours.a.high, ours.a.low), wide(ours.b.high, ours.b.low), ours.window), (theirs.a, theirs.b, theirs.window));
+    assert_eq!(ring, plain_ring);
+    let library = || library_stream(black_box(samples), m, &mut ring);
+    compare("meter, a sample", m, library, || plain_stream(black_box(samples), m, &mut plain_ring));
+}
+
+fn file(samples: &[i64]) {
+    let bytes = file_of(Kind::Phase, samples);
+    let (mut buffer, mut plain_buffer) = (vec![0; LENGTH], vec![0; LENGTH]);
+    let (ours, theirs) = (ploegelster::read_file(&bytes, &mut buffer), straightforward::read_file(&bytes, &mut plain_buffer));
+    assert_eq!(Ok((ours.kind, ours.count)), theirs);
+    assert_eq!(buffer, plain_buffer);
+    let library = || ploegelster::read_file(black_box(&bytes), &mut buffer);
+    compare("file read", 0, library, || straightforward::read_file(black_box(&bytes), &mut plain_buffer));
+}
+
+fn main() {
+    let samples = samples();
+    println!("{LENGTH} values, medians of {TURNS} turns, nanoseconds a value\n");
+    println!("| work | m | library | plain Rust | ratio |");
+    println!("|---|---|---|---|---|");
+    for m in [1, 100, 5_000] {
+        sums(&samples, m);
+    }
+    for m in [1, 100, 5_000] {
+        meter(&samples, m);
+    }
+    file(&samples);
+}

@@ -1,0 +1,134 @@
+//! The same work written straightforwardly, with the same tests and refusals: plain loops, whole numbers of 128 bits for the sums, no unsafe code.
+
+const END: i64 = 1 << 40;
+
+/// A sum with its count, or the number and place of a refusal.
+pub type Outcome<T> = Result<T, (u64, u64)>;
+
+fn check(samples: &[i64], m: u64, fewest: u64) -> Outcome<()> {
+    if m < 1 || m > 10_922 {
+        return Err((5, 0));
+    }
+    if samples.len() > 32_768 {
+        return Err((2, 0));
+    }
+    if (samples.len() as u64) < fewest {
+        return Err((1, 0));
+    }
+    match samples.iter().position(|&x| x < -END || x > END) {
+        Some(index) => Err((3, index as u64)),
+        None => Ok(()),
+    }
+}
+
+#[inline(never)]
+pub fn allan_sum(samples: &[i64], m: u64) -> Outcome<(u128, u64)> {
+    check(samples, m, m.saturating_mul(2).saturating_add(1))?;
+    let m = m as usize;
+    let count = samples.len() - 2 * m;
+    let mut total = 0u128;
+    for i in 0..count {
+        let d = samples[i + 2 * m] - 2 * samples[i + m] + samples[i];
+        total += (d as i128 * d as i128) as u128;
+    }
+    Ok((total, count as u64))
+}
+
+#[inline(never)]
+pub fn modified_sum(samples: &[i64], m: u64) -> Outcome<(u128, u64)> {
+    check(samples, m, m.saturating_mul(3))?;
+    let m = m as usize;
+    let difference = |i: usize| samples[i + 2 * m] - 2 * samples[i + m] + samples[i];
+    let mut window: i64 = (0..m).map(difference).sum();
+    let mut total = (window as i128 * window as i128) as u128;
+    let count = samples.len() - 3 * m + 1;
+    for j in 1..count {
+        window += difference(j + m - 1) - difference(j - 1);
+        total += (window as i128 * window as i128) as u128;
+    }
+    Ok((total, count as u64))
+}
+
+#[derive(Clone, Copy)]
+pub struct Meter {
+    pub m: u64,
+    pub n: u64,
+    pub a: u128,
+    pub b: u128,
+    pub window: i64,
+}
+
+/// The meter with one more sample; the ring is lent.
+#[inline(never)]
+pub fn sample(meter: Meter, ring: &mut [i64], x: i64) -> Outcome<Meter> {
+    let Meter { m, n, mut a, mut b, mut window } = meter;
+    if m < 1 || m > 10_922 || n > 32_768 || window.unsigned_abs() > m << 42 || a >> 126 != 0 || b >> 126 != 0 || (ring.len() as u64) < 3 * m {
+        return Err((7, 0));
+    }
+    let inside = |x: i64| x >= -END && x <= END;
+    let slot = |k: u64| (k % (3 * m)) as usize;
+    let (mut one, mut two, mut three) = (0, 0, 0);
+    if n >= 2 * m {
+        (one, two) = (ring[slot(n - m)], ring[slot(n - 2 * m)]);
+    }
+    if n >= 3 * m {
+        three = ring[slot(n)];
+    }
+    if !inside(one) || !inside(two) || !inside(three) {
+        return Err((7, 0));
+    }
+    if n == 32_768 {
+        return Err((2, 0));
+    }
+    if !inside(x) {
+        return Err((3, 0));
+    }
+    if n >= 2 * m {
+        let d = x - 2 * one + two;
+        a += (d as i128 * d as i128) as u128;
+        window += d;
+        if n >= 3 * m {
+            window -= one - 2 * two + three;
+        }
+        if n + 1 >= 3 * m {
+            b += (window as i128 * window as i128) as u128;
+        }
+    }
+    ring[slot(n)] = x;
+    Ok(Meter { m, n: n + 1, a, b, window })
+}
+
+/// The kind and count of a file, its values written to the buffer once all are known to be good.
+#[inline(never)]
+pub fn read_file(bytes: &[u8], buffer: &mut [i64]) -> Outcome<(u64, u64)> {
+    for (offset, &byte) in bytes.iter().take(6).enumerate() {
+        let right = if offset == 5 { byte < 2 } else { byte == [0x50, 0x48, 0x52, 1, 0][offset] };
+        if !right {
+            return Err((9, offset as u64));
+        }
+    }
+    if bytes.len() < 8 {
+        return Err((9, bytes.len() as u64));
+    }
+    let kind = bytes[5] as usize;
+    let count = u16::from_le_bytes([bytes[6], bytes[7]]) as usize;
+    if count > [32_768, 32_767][kind] {
+        return Err((2, 0));
+    }
+    let right = 8 + 8 * count;
+    if bytes.len() != right {
+        return Err((9, right.min(bytes.len()) as u64));
+    }
+    if buffer.len() < count {
+        return Err((6, 0));
+    }
+    let values = || bytes[8..].chunks_exact(8).map(|eight| i64::from_le_bytes(eight.try_into().unwrap()));
+    let end = [END, 2 * END][kind];
+    if let Some(index) = values().position(|value| value < -end || value > end) {
+        return Err((3, index as u64));
+    }
+    for (entry, value) in buffer.iter_mut().zip(values()) {
+        *entry = value;
+    }
+    Ok((kind as u64, count as u64))
+}

@@ -1,0 +1,46 @@
+//! The drift figure, and a record with its drift removed.
+
+use super::{ask, ask_at, ask_samples, in_sample_range, Answer, MOST_SAMPLES};
+
+/// Drift as P over R.
+#[derive(Clone, Copy, Debug, PartialEq, Eq)]
+pub struct Drift {
+    pub p: i128,
+    pub r: u64,
+}
+
+fn ask_size(samples: &[i64]) -> Answer<()> {
+    ask(samples.len() as u64 <= MOST_SAMPLES, 2)?;
+    ask(samples.len() >= 3, 1)
+}
+
+/// P and R of a sound record.
+fn figure(samples: &[i64]) -> Drift {
+    let x = |i: usize| samples[i] as i128;
+    let last = samples.len() - 1;
+    Drift { p: (x(last) - x(last - 1)) - (x(1) - x(0)), r: last as u64 - 1 }
+}
+
+/// P = (x_(N-1) - x_(N-2)) - (x_1 - x_0) and R = N-2.
+pub fn drift_figure(samples: &[i64]) -> Answer<Drift> {
+    ask_size(samples)?;
+    ask_samples(samples)?;
+    Ok(figure(samples))
+}
+
+/// x_i - floor(P i (i-1) / (2R)); gives how many were written.
+pub fn remove_drift(samples: &[i64], buffer: &mut [i64]) -> Answer<u64> {
+    ask_size(samples)?;
+    ask(buffer.len() >= samples.len(), 6)?;
+    ask_samples(samples)?;
+    let Drift { p, r } = figure(samples);
+    let mut results = Vec::with_capacity(samples.len());
+    for (index, &x) in samples.iter().enumerate() {
+        let i = index as i128;
+        let result = x as i128 - (p * i * (i - 1)).div_euclid(2 * r as i128);
+        ask_at(in_sample_range(result), 3, index as u64)?;
+        results.push(result as i64);
+    }
+    buffer[..results.len()].copy_from_slice(&results);
+    Ok(results.len() as u64)
+}

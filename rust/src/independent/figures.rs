@@ -1,0 +1,173 @@
+//! The outline's figures to check by hand, in its order, worked by the second implementation alone.
+
+use super::drawn::{allan_dot, drawn_number, time_dot, Dot};
+use super::drift::{drift_figure, remove_drift, Drift};
+use super::file::{file_of, read_file, write_file, Kind, Read};
+use super::floats::{float_sums, sample_of};
+use super::fractions::*;
+use super::frequency::{frequency_from_phase, phase_from_frequency};
+use super::meter;
+use super::noise::{bars, half_width, noise_of_record, noise_type, Noise};
+use super::sums::{allan_sum, modified_sum, Sum};
+use super::{Answer, Refusal};
+
+const END: i64 = 1 << 40;
+
+fn refused<T>(number: u64, place: u64) -> Answer<T> {
+    Err(Refusal { number, place })
+}
+
+fn sum(total: u128, count: u64) -> Answer<Sum> {
+    Ok(Sum { total, count })
+}
+
+fn fraction(numerator: u128, denominator: u128) -> Answer<Fraction> {
+    Ok(Fraction { numerator, denominator })
+}
+
+fn allan_variance(samples: &[i64], m: u64) -> Answer<Fraction> {
+    allan_sum(samples, m).and_then(|sum| allan_fraction(sum.total, m, sum.count))
+}
+
+fn time_variance(samples: &[i64], m: u64) -> Answer<Fraction> {
+    modified_sum(samples, m).and_then(|sum| time_fraction(sum.total, m, sum.count))
+}
+
+#[test]
+fn squares() {
+    let x = [0, 1, 4, 9, 16, 25];
+    assert_eq!(allan_sum(&x, 1), sum(16, 4));
+    assert_eq!(allan_variance(&x, 1), fraction(2, 1));
+    assert_eq!(allan_deviation(16, 1, 4), Ok(1_482_910));
+    assert_eq!(allan_sum(&x, 2), sum(128, 2));
+    assert_eq!(allan_variance(&x, 2), fraction(8, 1));
+    assert_eq!(modified_sum(&x, 2), sum(256, 1));
+    assert_eq!(time_variance(&x, 2), fraction(32, 3));
+}
+
+#[test]
+fn short_records() {
+    assert_eq!(allan_variance(&[5, 8, 11, 14], 1), fraction(0, 1));
+    let x = [0, 1, 0, 1, 0];
+    assert_eq!(allan_sum(&x, 1), sum(12, 3));
+    assert_eq!(allan_variance(&x, 1), fraction(2, 1));
+    assert_eq!(allan_sum(&x, 2), sum(0, 1));
+    assert_eq!(modified_sum(&x, 2), refused(1, 0));
+    let x = [0, 0, 0, 1, 0, 0, 0];
+    assert_eq!(allan_sum(&x, 1), sum(6, 5));
+    assert_eq!(allan_variance(&x, 1), fraction(3, 5));
+    assert_eq!(allan_sum(&x, 2), sum(4, 3));
+    assert_eq!(allan_variance(&x, 2), fraction(1, 6));
+    assert_eq!(modified_sum(&x, 2), sum(8, 2));
+    assert_eq!(time_variance(&x, 2), fraction(1, 6));
+    assert_eq!(allan_sum(&[END, -END, END], 1), sum(1 << 84, 1));
+}
+
+#[test]
+fn readings_and_drift() {
+    let mut buffer = [7; 6];
+    assert_eq!(phase_from_frequency(&[3, -1, 4], &mut buffer), Ok(4));
+    assert_eq!(buffer, [0, 3, 2, 6, 7, 7]);
+    assert_eq!(frequency_from_phase(&[0, 3, 2, 6], &mut buffer), Ok(3));
+    assert_eq!(buffer, [3, -1, 4, 6, 7, 7]);
+    let x = [0, 1, 4, 9, 16, 25];
+    assert_eq!(drift_figure(&x), Ok(Drift { p: 8, r: 4 }));
+    assert_eq!(remove_drift(&x, &mut buffer), Ok(6));
+    assert_eq!(buffer, [0, 1, 2, 3, 4, 5]);
+    let x = [0, 0, 0, -1];
+    assert_eq!(drift_figure(&x), Ok(Drift { p: -1, r: 2 }));
+    assert_eq!(remove_drift(&x, &mut buffer), Ok(4));
+    assert_eq!(buffer, [0, 0, 1, 1, 4, 5]);
+    assert_eq!(remove_drift(&[0, END, -END, END + 1], &mut buffer), refused(3, 3));
+    assert_eq!(buffer, [0, 0, 1, 1, 4, 5]);
+}
+
+#[test]
+fn noise_and_bars() {
+    assert_eq!(half_width(1_000_000, Noise::FlickerFrequency, 100), 77_000);
+    assert_eq!(noise_type(4096, 4096), Ok(Noise::FlickerPhase));
+    assert_eq!(noise_type(4096, 3444), Ok(Noise::WhitePhase));
+    assert_eq!(noise_type(4096, 3445), Ok(Noise::FlickerPhase));
+    assert_eq!(noise_type(0, 0), refused(8, 0));
+    assert_eq!(bars(1_000_000, Noise::FlickerFrequency, 9), refused(1, 0));
+    let row = bars(1_000_000, Noise::FlickerFrequency, 10).unwrap();
+    assert!(row.low < row.mid && row.mid < row.high && !row.touches);
+    assert_eq!(row.mid, 1_000_000.0 / 1_048_576.0);
+    assert_eq!(half_width(4, Noise::WhitePhase, 10), 0);
+    assert_eq!(noise_of_record(&[0; 6], 1), refused(8, 0));
+    assert_eq!(noise_of_record(&[0, 1, 0, 1, 0, 1], 1), Ok(Noise::WhitePhase));
+}
+
+#[test]
+fn limits() {
+    assert_eq!(allan_sum(&[0, END, 0], 1), sum(1 << 82, 1));
+    assert_eq!(allan_sum(&[0, END + 1, 0], 1), refused(3, 1));
+    for (reading, sample) in [(END as f64, Ok(END)), (END as f64 + 1.0, Err(3)), (0.5, Err(4)), (END as f64 + 0.5, Err(3))] {
+        assert_eq!(sample_of(reading), sample);
+    }
+    for (reading, sample) in [(-0.0, Ok(0)), (f64::NAN, Err(4)), (f64::NEG_INFINITY, Err(3)), (5e-324, Err(4)), (-3.0, Ok(-3)), (1e300, Err(3))] {
+        assert_eq!(sample_of(reading), sample);
+    }
+    let m = 7;
+    assert_eq!(allan_sum(&[0; 14], m), refused(1, 0));
+    assert_eq!(allan_sum(&[0; 15], m), sum(0, 1));
+    let mut buffer = [1; 3];
+    let sums = float_sums(&[0.0, 1.0, 0.0], 1, &mut buffer).unwrap();
+    assert_eq!((sums.allan, sums.modified), (Some(Sum { total: 4, count: 1 }), Some(Sum { total: 4, count: 1 })));
+    assert_eq!(buffer, [0, 1, 0]);
+}
+
+#[test]
+fn drawn_and_dots() {
+    for r in [1u64, 2, 3, 1 << 20, (1 << 53) - 1, 1 << 53, 1 << 63] {
+        assert_eq!(drawn_number(r), Ok(r as f64 / 1_048_576.0));
+    }
+    assert_eq!(drawn_number((1 << 53) + 1), drawn_number(1 << 53));
+    assert_eq!(drawn_number((1 << 54) - 1), Ok(((1u64 << 53) - 1) as f64 / 524_288.0));
+    assert_eq!(drawn_number(0), refused(3, 0));
+    assert_eq!(drawn_number((1 << 63) + 1), refused(3, 0));
+    assert_eq!(allan_dot(1, 1, 0), Ok(Dot::TooFew));
+    assert_eq!(allan_dot(1, 0, 0), refused(5, 0));
+    assert_eq!(allan_dot(0, 1, 1), Ok(Dot::Nought));
+    assert_eq!(time_dot(16, 1, 4), drawn_number(856_158).map(Dot::Drawn));
+    // The least sum whose deviation passes 2^62 at m = 1, K = 1, and the one before it.
+    let least = (1u128 << 85) + (1 << 24) + 1;
+    assert_eq!(allan_deviation(least - 1, 1, 1), Ok(1 << 62));
+    assert_eq!(allan_deviation(least, 1, 1), refused(3, 0));
+}
+
+#[test]
+fn meter_follows_the_sums() {
+    let x = [3, 1, 4, -1, 5, -9, 2, 6, 5, 3, 5];
+    for m in 1..=3u64 {
+        let mut ring = [END + 9; 9];
+        let mut now = meter::start(m, &ring).unwrap();
+        for n in 0..=x.len() {
+            let sums = meter::report(&now).unwrap();
+            assert_eq!(sums.allan, allan_sum(&x[..n], m).ok());
+            assert_eq!(sums.modified, modified_sum(&x[..n], m).ok());
+            assert_eq!(meter::sample(&now, &mut ring, END + 1), refused(3, 0));
+            if let Some(&x) = x.get(n) {
+                now = meter::sample(&now, &mut ring, x).unwrap();
+            }
+        }
+    }
+}
+
+#[test]
+fn whole_file() {
+    let file = [
+        0x50, 0x48, 0x52, 0x01, 0x00, 0x00, 0x02, 0x00, 0x01, 0x00, 0x00, 0x00, 0x00, 0x00, 0x00, 0x00, 0xFF, 0xFF, 0xFF, 0xFF, 0xFF, 0xFF, 0xFF,
+        0xFF,
+    ];
+    assert_eq!(file_of(Kind::Phase, &[1, -1]), file);
+    let (mut values, mut bytes) = ([7; 3], [9; 25]);
+    assert_eq!(read_file(&file, &mut values), Ok(Read { kind: Kind::Phase, count: 2 }));
+    assert_eq!(values, [1, -1, 7]);
+    assert_eq!(write_file(0, &[1, -1], &mut bytes), Ok(24));
+    assert_eq!((&bytes[..24], bytes[24]), (&file[..], 9));
+    assert_eq!(write_file(2, &[1, -1], &mut bytes), refused(9, 5));
+    assert_eq!(read_file(&[], &mut values), refused(9, 0));
+    assert_eq!(read_file(&[0x50, 0x48, 0x52, 1, 1], &mut values), refused(9, 4));
+    assert_eq!(read_file(&file[..23], &mut values), refused(9, 23));
+}

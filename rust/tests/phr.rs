@@ -1,0 +1,208 @@
+//! The crate `phr` over the C boundary: the record file, read and written.
+
+#[allow(dead_code)]
+mod shared;
+
+use ploegelster::independent::file::{self, file_of, Kind};
+use shared::lent::Lent;
+use shared::random::Random;
+use shared::records::rooms;
+use shared::{shown, Tally, END};
+
+fn read_case(tally: &mut Tally, bytes: &[u8], room: usize) {
+    let input = || format!("read, buffer of {room}, bytes {}", shown(bytes));
+    let (mut lent, mut buffer, mut own_buffer) = (Lent::holding(bytes), Lent::painted(room), Lent::painted(room));
+    let own = file::read_file(bytes, own_buffer.part());
+    tally.same(&ploegelster::read_file(lent.part(), buffer.part()), &own, input);
+    assert_eq!(buffer.differs(&own_buffer), None, "first other entry of the buffer, {}", input());
+    assert!(own.is_ok() || buffer.is_painted(), "buffer changed by a refusal, {}", input());
+    assert!(lent.holds(bytes), "bytes changed, {}", input());
+}
+
+fn write_case(tally: &mut Tally, kind: u64, values: &[i64], room: usize) {
+    let input = || format!("write, kind {kind}, buffer of {room}, values {}", shown(values));
+    let (mut lent, mut buffer, mut own_buffer) = (Lent::holding(values), Lent::painted(room), Lent::painted(room));
+    let own = file::write_file(kind, values, own_buffer.part());
+    tally.same(&ploegelster::write_file(kind, lent.part(), buffer.part()), &own, input);
+    assert_eq!(buffer.differs(&own_buffer), None, "first other byte of the buffer, {}", input());
+    assert!(own.is_ok() || buffer.is_painted(), "buffer changed by a refusal, {}", input());
+    assert!(lent.holds(values), "values changed, {}", input());
+}
+
+const KINDS: [Kind; 2] = [Kind::Phase, Kind::Frequency];
+
+fn end_of(kind: Kind) -> i64 {
+    match kind {
+        Kind::Phase => END,
+        Kind::Frequency => 2 * END,
+    }
+}
+
+/// Values of a kind, each within its range or, one in so many, about an end of either kind's range or of a word.
+fn values(random: &mut Random, kind: Kind, count: usize, one_in: u64) -> Vec<i64> {
+    let end = end_of(kind);
+    let about = [-1, 0, 1].map(|step| [END, -END, 2 * END, -2 * END, i64::MAX - 1, i64::MIN + 1].map(|limit| limit + step)).concat();
+    let size = random.sized(41) as i64;
+    let size = size.min(end);
+    (0..count).map(|_| if one_in > 0 && random.one_in(one_in) { random.pick(&about) } else { random.between(-size, size) }).collect()
+}
+
+#[test]
+fn every_byte_changed() {
+    let mut tally = Tally::default();
+    for kind in KINDS {
+        for values in [&[][..], &[end_of(kind), -end_of(kind), -1]] {
+            let sound = file_of(kind, values);
+            for offset in 0..sound.len() {
+                for change in 0..=255 {
+                    let mut bytes = sound.clone();
+                    bytes[offset] ^= change;
+                    read_case(&mut tally, &bytes, 3);
+                }
+            }
+        }
+    }
+    tally.ran(20_480, &[0, 2, 3, 9]);
+}
+
+#[test]
+fn two_header_bytes_changed() {
+    let mut tally = Tally::default();
+    for kind in KINDS {
+        let sound = file_of(kind, &[1, -1]);
+        for first in 0..8 {
+            for second in first + 1..8 {
+                for change in [1, 2, 0x20, 0x80, 0xFF] {
+                    for other in [1, 2, 0x20, 0x80, 0xFF] {
+                        let mut bytes = sound.clone();
+                        bytes[first] ^= change;
+                        bytes[second] ^= other;
+                        read_case(&mut tally, &bytes, 2);
+                        read_case(&mut tally, &bytes[..=second], 2);
+                    }
+                }
+            }
+        }
+    }
+    tally.ran(2_800, &[2, 9]);
+}
+
+#[test]
+fn every_truncation_and_extension() {
+    let (mut tally, mut random) = (Tally::default(), Random::new(41));
+    for kind in KINDS {
+        for count in [0, 1, 2, 9] {
+            let whole = file_of(kind, &values(&mut random, kind, count, 0));
+            for length in 0..=whole.len() {
+                for room in rooms(count) {
+                    read_case(&mut tally, &whole[..length], room);
+                }
+                // The same with a byte that the header must not have, where there is one.
+                for offset in 0..length.min(6) {
+                    let mut bytes = whole[..length].to_vec();
+                    bytes[offset] ^= 0x41;
+                    read_case(&mut tally, &bytes, count);
+                }
+            }
+            for byte in 0..=255 {
+                let longer = [&whole[..], &[byte]].concat();
+                read_case(&mut tally, &longer, count);
+            }
+            for more in 2..=17 {
+                let longer = [&whole[..], &vec![0; more]].concat();
+                read_case(&mut tally, &longer, count);
+            }
+        }
+    }
+    tally.ran(4_912, &[0, 6, 9]);
+}
+
+#[test]
+fn largest_counts() {
+    let (mut tally, mut random) = (Tally::default(), Random::new(42));
+    for kind in KINDS {
+        for count in [32_766, 32_767, 32_768, 32_769, 65_535] {
+            let mut values = values(&mut random, kind, count, 0);
+            for damaged in [false, true] {
+                if damaged {
+                    values[random.pick(&[0, 1, count / 2, count - 2, count - 1])] = end_of(kind) + 1;
+                }
+                let bytes = file_of(kind, &values);
+                for room in rooms(count) {
+                    read_case(&mut tally, &bytes, room);
+                }
+                read_case(&mut tally, &bytes[..bytes.len() - 1], count);
+                read_case(&mut tally, &[&bytes[..], &[0]].concat(), count);
+                for room in rooms(bytes.len()) {
+                    write_case(&mut tally, kind.byte() as u64, &values, room);
+                }
+            }
+        }
+    }
+    // A count of 65,536 or more has no header; only writing can meet it.
+    for count in [65_536, 65_537, 100_000] {
+        for kind in 0..3 {
+            write_case(&mut tally, kind, &vec![0; count], 8 + 8 * count);
+        }
+    }
+    tally.ran(249, &[0, 2, 3, 6, 9]);
+}
+
+#[test]
+fn files_generated_and_damaged() {
+    let (mut tally, mut random) = (Tally::default(), Random::new(43));
+    for _ in 0..16_000 {
+        let kind = random.pick(&KINDS);
+        let count = random.below(12) as usize;
+        let values = values(&mut random, kind, count, 12);
+        let mut bytes = file_of(kind, &values);
+        for _ in 0..random.below(3) {
+            let offset = random.below(bytes.len() as u64) as usize;
+            bytes[offset] = random.word() as u8;
+        }
+        if random.one_in(4) {
+            bytes.truncate(random.below(bytes.len() as u64 + 1) as usize);
+        }
+        let room = random.pick(&rooms(count));
+        read_case(&mut tally, &bytes, room);
+        let kind = if random.one_in(12) { random.pick(&[2, 3, 255, 256, 257, 1 << 32, u64::MAX]) } else { kind.byte() as u64 };
+        let room = if random.one_in(2) { random.pick(&rooms(8 + 8 * count)) } else { 8 + 8 * count };
+        write_case(&mut tally, kind, &values, room);
+    }
+    tally.ran(32_000, &[0, 2, 3, 6, 9]);
+}
+
+#[test]
+fn one_value_outside_at_every_index() {
+    let mut tally = Tally::default();
+    for kind in KINDS {
+        let end = end_of(kind);
+        for index in 0..40 {
+            for value in [end - 1, end, end + 1, 1 - end, -end, -end - 1, i64::MAX, i64::MIN] {
+                let mut values: Vec<i64> = (0..40).map(|i| if i % 2 == 0 { end - i } else { i - end }).collect();
+                values[index] = value;
+                read_case(&mut tally, &file_of(kind, &values), 40);
+                write_case(&mut tally, kind.byte() as u64, &values, 328);
+            }
+        }
+    }
+    tally.ran(1_280, &[0, 3]);
+}
+
+#[test]
+fn what_is_written_is_read() {
+    let (mut cases, mut random) = (0, Random::new(44));
+    for _ in 0..3_000 {
+        let kind = random.pick(&KINDS);
+        let count = random.below(50) as usize;
+        let values = values(&mut random, kind, count, 0);
+        let mut bytes = vec![0; 8 + 8 * count];
+        let written = ploegelster::write_file(kind.byte() as u64, &values, &mut bytes);
+        assert_eq!((written.number, written.count), (0, bytes.len() as u64));
+        let mut back = vec![0; count];
+        let read = ploegelster::read_file(&bytes, &mut back);
+        assert_eq!((read.number, read.kind, read.count, back), (0, kind.byte() as u64, count as u64, values));
+        cases += 1;
+    }
+    assert_eq!(cases, 3_000);
+}

@@ -1,0 +1,208 @@
+//! Answers of both sides laid out as words: number, place, then every value in the header's order. Doubles are their bits.
+
+use ploegelster::independent::drawn::Dot;
+use ploegelster::independent::drift::Drift;
+use ploegelster::independent::file::Read;
+use ploegelster::independent::floats::Sums;
+use ploegelster::independent::fractions::Fraction;
+use ploegelster::independent::meter::Meter;
+use ploegelster::independent::noise::{Bars, Noise};
+use ploegelster::independent::sums::Sum;
+use ploegelster::independent::Answer;
+
+/// An answer of the library.
+pub trait Words {
+    fn words(&self) -> Vec<u64>;
+}
+
+impl Words for ploegelster::CountAnswer {
+    fn words(&self) -> Vec<u64> {
+        vec![self.number, self.place, self.count]
+    }
+}
+
+impl Words for ploegelster::SumAnswer {
+    fn words(&self) -> Vec<u64> {
+        vec![self.number, self.place, self.high, self.low, self.count]
+    }
+}
+
+impl Words for ploegelster::SumsAnswer {
+    fn words(&self) -> Vec<u64> {
+        let (a, b) = (&self.allan, &self.modified);
+        vec![self.number, self.place, a.number, a.high, a.low, a.count, b.number, b.high, b.low, b.count]
+    }
+}
+
+impl Words for ploegelster::FractionAnswer {
+    fn words(&self) -> Vec<u64> {
+        vec![self.number, self.place, self.high, self.low, self.denominator]
+    }
+}
+
+impl Words for ploegelster::DeviationAnswer {
+    fn words(&self) -> Vec<u64> {
+        vec![self.number, self.place, self.deviation]
+    }
+}
+
+impl Words for ploegelster::DriftAnswer {
+    fn words(&self) -> Vec<u64> {
+        vec![self.number, self.place, self.p as u64, self.r]
+    }
+}
+
+impl Words for ploegelster::DrawnAnswer {
+    fn words(&self) -> Vec<u64> {
+        vec![self.number, self.place, self.value.to_bits()]
+    }
+}
+
+impl Words for ploegelster::DotAnswer {
+    fn words(&self) -> Vec<u64> {
+        vec![self.number, self.place, self.kind, self.value.to_bits()]
+    }
+}
+
+impl Words for ploegelster::NoiseAnswer {
+    fn words(&self) -> Vec<u64> {
+        vec![self.number, self.place, self.alpha as u64]
+    }
+}
+
+impl Words for ploegelster::BarsAnswer {
+    fn words(&self) -> Vec<u64> {
+        vec![self.number, self.place, self.bar.low.to_bits(), self.bar.mid.to_bits(), self.bar.high.to_bits(), self.touches as u64]
+    }
+}
+
+impl Words for ploegelster::MeterAnswer {
+    fn words(&self) -> Vec<u64> {
+        let meter = &self.meter;
+        vec![self.number, self.place, meter.m, meter.n, meter.a.high, meter.a.low, meter.b.high, meter.b.low, meter.window as u64]
+    }
+}
+
+impl Words for ploegelster::ReadAnswer {
+    fn words(&self) -> Vec<u64> {
+        vec![self.number, self.place, self.kind, self.count]
+    }
+}
+
+/// What the second implementation answers, in as many words as the library's answer has beside number and place.
+pub trait Values {
+    const LENGTH: usize;
+    fn values(&self) -> Vec<u64>;
+}
+
+fn high(x: u128) -> u64 {
+    (x >> 64) as u64
+}
+
+fn low(x: u128) -> u64 {
+    x as u64
+}
+
+/// A count or a deviation.
+impl Values for u64 {
+    const LENGTH: usize = 1;
+    fn values(&self) -> Vec<u64> {
+        vec![*self]
+    }
+}
+
+impl Values for Sum {
+    const LENGTH: usize = 3;
+    fn values(&self) -> Vec<u64> {
+        vec![high(self.total), low(self.total), self.count]
+    }
+}
+
+impl Values for Sums {
+    const LENGTH: usize = 8;
+    fn values(&self) -> Vec<u64> {
+        let part = |part: &Option<Sum>| match part {
+            Some(sum) => [0, high(sum.total), low(sum.total), sum.count],
+            None => [1, 0, 0, 0],
+        };
+        [part(&self.allan), part(&self.modified)].concat()
+    }
+}
+
+impl Values for Fraction {
+    const LENGTH: usize = 3;
+    fn values(&self) -> Vec<u64> {
+        assert_eq!(high(self.denominator), 0);
+        vec![high(self.numerator), low(self.numerator), low(self.denominator)]
+    }
+}
+
+impl Values for Drift {
+    const LENGTH: usize = 2;
+    fn values(&self) -> Vec<u64> {
+        vec![self.p as i64 as u64, self.r]
+    }
+}
+
+/// A drawn number.
+impl Values for f64 {
+    const LENGTH: usize = 1;
+    fn values(&self) -> Vec<u64> {
+        vec![self.to_bits()]
+    }
+}
+
+impl Values for Dot {
+    const LENGTH: usize = 2;
+    fn values(&self) -> Vec<u64> {
+        match self {
+            Dot::Nought => vec![0, 0],
+            Dot::Drawn(value) => vec![1, value.to_bits()],
+            Dot::TooFew => vec![2, 0],
+        }
+    }
+}
+
+impl Values for Noise {
+    const LENGTH: usize = 1;
+    fn values(&self) -> Vec<u64> {
+        vec![self.alpha() as u64]
+    }
+}
+
+impl Values for Bars {
+    const LENGTH: usize = 4;
+    fn values(&self) -> Vec<u64> {
+        vec![self.low.to_bits(), self.mid.to_bits(), self.high.to_bits(), self.touches as u64]
+    }
+}
+
+impl Values for Meter {
+    const LENGTH: usize = 7;
+    fn values(&self) -> Vec<u64> {
+        vec![self.m, self.n, high(self.a), low(self.a), high(self.b), low(self.b), self.window as u64]
+    }
+}
+
+impl Values for Read {
+    const LENGTH: usize = 2;
+    fn values(&self) -> Vec<u64> {
+        vec![self.kind.byte() as u64, self.count]
+    }
+}
+
+/// Number, place and values, with noughts beside a refusal.
+pub fn expected<T: Values>(answer: &Answer<T>) -> Vec<u64> {
+    match answer {
+        Ok(values) => [vec![0, 0], values.values()].concat(),
+        Err(refusal) => [vec![refusal.number, refusal.place], vec![0; T::LENGTH]].concat(),
+    }
+}
+
+/// The same for a meter, which a refusal hands back as it came.
+pub fn expected_meter(answer: &Answer<Meter>, old: &Meter) -> Vec<u64> {
+    match answer {
+        Ok(meter) => [vec![0, 0], meter.values()].concat(),
+        Err(refusal) => [vec![refusal.number, refusal.place], old.values()].concat(),
+    }
+}

@@ -1,0 +1,170 @@
+//! The crate `sums` over the C boundary: sums, fractions and deviations.
+
+#[allow(dead_code)]
+mod shared;
+
+use ploegelster::independent::{fractions, sums};
+use ploegelster::Wide;
+use shared::lent::Lent;
+use shared::random::Random;
+use shared::records::{factors, lengths, maybe_damaged, record, OUTSIDE};
+use shared::{shown, with_neighbours, Tally, END};
+
+/// Both sums of one record: two cases.
+fn sums_case(tally: &mut Tally, samples: &[i64], m: u64) {
+    let mut lent = Lent::holding(samples);
+    let input = || format!("factor {m}, samples {}", shown(samples));
+    tally.same(&ploegelster::allan_sum(lent.part(), m), &sums::allan_sum(samples, m), || format!("Allan sum, {}", input()));
+    tally.same(&ploegelster::modified_sum(lent.part(), m), &sums::modified_sum(samples, m), || format!("modified sum, {}", input()));
+    assert!(lent.holds(samples), "samples changed, {}", input());
+}
+
+#[test]
+fn sums_at_every_limit() {
+    let (mut tally, mut random) = (Tally::default(), Random::new(1));
+    for m in factors() {
+        for length in lengths(m) {
+            let samples = record(&mut random, length);
+            sums_case(&mut tally, &samples, m);
+            let samples = maybe_damaged(&mut random, length, 1);
+            sums_case(&mut tally, &samples, m);
+        }
+    }
+    tally.ran(2_752, &[0, 1, 2, 3, 5]);
+}
+
+#[test]
+fn sums_of_every_small_record() {
+    let mut tally = Tally::default();
+    for length in 0..=7 {
+        for number in 0..3usize.pow(length) {
+            let samples: Vec<i64> = (0..length).map(|i| [-END, 0, END][number / 3usize.pow(i) % 3]).collect();
+            for m in 0..=3 {
+                sums_case(&mut tally, &samples, m);
+            }
+        }
+    }
+    tally.ran(26_240, &[0, 1, 5]);
+}
+
+#[test]
+fn sums_of_short_records() {
+    let (mut tally, mut random) = (Tally::default(), Random::new(2));
+    for _ in 0..20_000 {
+        let m = random.below(13);
+        let length = random.below(60) as usize;
+        let samples = maybe_damaged(&mut random, length, 8);
+        sums_case(&mut tally, &samples, m);
+    }
+    tally.ran(40_000, &[0, 1, 3, 5]);
+}
+
+#[test]
+fn sums_with_one_value_outside_at_every_index() {
+    let (mut tally, mut random) = (Tally::default(), Random::new(3));
+    for (length, m) in [(3, 1), (64, 21), (301, 7), (1_500, 100)] {
+        let sound = record(&mut random, length);
+        for index in 0..length {
+            for value in [-END, END, OUTSIDE[0], OUTSIDE[1], OUTSIDE[2], OUTSIDE[3]] {
+                let mut samples = sound.clone();
+                samples[index] = value;
+                sums_case(&mut tally, &samples, m);
+            }
+        }
+    }
+    tally.ran(22_416, &[0, 3]);
+}
+
+#[test]
+fn sums_of_long_records() {
+    let (mut tally, mut random) = (Tally::default(), Random::new(4));
+    for _ in 0..2_500 {
+        let m = random.factor(10_922);
+        let length = random.between(3 * m as i64 - 2, 32_768) as usize;
+        let length = if random.one_in(2) { length } else { 32_768 };
+        let samples = maybe_damaged(&mut random, length, 6);
+        sums_case(&mut tally, &samples, m);
+    }
+    tally.ran(5_000, &[0, 1, 3]);
+}
+
+#[test]
+fn sums_of_the_widest_records() {
+    // Alternating blocks of ends make every difference as large as it can be, and every window too.
+    let mut tally = Tally::default();
+    for m in [1u64, 2, 3, 100, 5_000, 10_922] {
+        let samples: Vec<i64> = (0..32_768).map(|i| if i / m % 2 == 0 { END } else { -END }).collect();
+        sums_case(&mut tally, &samples, m);
+        let samples: Vec<i64> = samples.iter().map(|x| -x).collect();
+        sums_case(&mut tally, &samples, m);
+    }
+    tally.ran(24, &[0]);
+}
+
+/// Fractions and deviations of one sum, factor and count: four cases.
+fn fractions_case(tally: &mut Tally, sum: u128, m: u64, count: u64) {
+    let wide = Wide::from(sum);
+    let input = |entry: &str| format!("{entry}, sum {sum}, factor {m}, count {count}");
+    tally.same(&ploegelster::allan_fraction(wide, m, count), &fractions::allan_fraction(sum, m, count), || input("Allan fraction"));
+    tally.same(&ploegelster::time_fraction(wide, m, count), &fractions::time_fraction(sum, m, count), || input("time fraction"));
+    tally.same(&ploegelster::allan_deviation(wide, m, count), &fractions::allan_deviation(sum, m, count), || input("Allan deviation"));
+    tally.same(&ploegelster::time_deviation(wide, m, count), &fractions::time_deviation(sum, m, count), || input("time deviation"));
+}
+
+/// Sums with both neighbours: where a half or a limit begins, and the ends of all.
+fn sum_limits() -> Vec<u128> {
+    let around = |x: u128| [x.wrapping_sub(1), x, x.wrapping_add(1)];
+    [0, 1 << 32, 1 << 63, 1 << 64, 1 << 85, 1 << 125, 1 << 126, 1 << 127].into_iter().flat_map(around).collect()
+}
+
+#[test]
+fn fractions_at_every_limit() {
+    let mut tally = Tally::default();
+    for m in factors() {
+        for count in with_neighbours(&[0, 1, 32_768, 1 << 16, 1 << 32, 1 << 63]) {
+            for sum in sum_limits() {
+                fractions_case(&mut tally, sum, m, count);
+            }
+        }
+    }
+    tally.ran(50_688, &[0, 1, 2, 3, 5]);
+}
+
+#[test]
+fn fractions_of_generated_sums() {
+    let (mut tally, mut random) = (Tally::default(), Random::new(5));
+    for _ in 0..10_000 {
+        let (m, count) = (random.factor(10_922), random.sized(15) + 1);
+        fractions_case(&mut tally, random.wide(127), m, count);
+        // One with factors in common with the denominator.
+        let common = 6 * (m * m * count) as u128 / random.factor(60) as u128;
+        let sum = (common * random.wide(80)) % (1 << 126);
+        fractions_case(&mut tally, sum, m, count);
+    }
+    tally.ran(80_000, &[0, 3]);
+}
+
+/// The least sum with r^2 D not above it times 2^40, where 128 bits hold it.
+fn least_sum(r: u64, denominator: u128) -> Option<u128> {
+    let (high, low) = fractions::product(r as u128 * r as u128, denominator);
+    let (low, carry) = low.overflowing_add((1 << 40) - 1);
+    let high = high + carry as u128;
+    (high >> 40 == 0).then(|| high << 88 | low >> 40)
+}
+
+#[test]
+fn deviations_where_they_change() {
+    let (mut tally, mut random) = (Tally::default(), Random::new(6));
+    const TOP: u64 = 1 << 62;
+    for turn in 0..8_000 {
+        let (m, count) = if turn < 40 { (1, 1) } else { (random.factor(10_922), random.sized(15) + 1) };
+        let r = if random.one_in(4) { random.pick(&[1, 2, TOP - 1, TOP, TOP + 1, TOP + 2]) } else { random.sized(62) + 1 };
+        for denominator in [2 * m * m * count, 6 * m * m * count] {
+            let Some(least) = least_sum(r, denominator as u128) else { continue };
+            for sum in [least - 1, least, least + 1] {
+                fractions_case(&mut tally, sum, m, count);
+            }
+        }
+    }
+    tally.ran(192_000, &[0, 3]);
+}
