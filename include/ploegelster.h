@@ -163,7 +163,8 @@ plg_noise_answer plg_noise_type(uint64_t r1, uint64_t r2);
  * m). */
 plg_noise_answer plg_noise_of_record(const int64_t *samples, size_t samples_length, uint64_t m);
 
-/* The bars of deviation r, for noise of type alpha over M intervals: w is kappa r, floored; h the greatest whole number with h^2 M not above w^2.
+/* The bars of deviation r, for noise of type alpha over M intervals: w is kappa, in hundredths, times r divided by 100, floored; h is the greatest
+ * whole number with h^2 M not above w^2.
  * Refuses 3 (alpha not from -2 to 2), 8 (r = 0), 3 (r above 2^62), 1 (M below 10), 2 (M above 32,767), all at place 0. */
 plg_bars_answer plg_bars(uint64_t r, int64_t alpha, uint64_t intervals);
 

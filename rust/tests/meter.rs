@@ -1,4 +1,4 @@
-//! The crate `meter` over the C boundary: sessions of calls, and meters made by hand.
+//! The crate `meter` over the C boundary: sequences of calls, and meters made by hand.
 
 #[allow(dead_code)]
 mod shared;
@@ -43,17 +43,17 @@ fn report_case(tally: &mut Tally, meter: &Meter) {
 }
 
 /// A meter in use: what it holds, its ring on both sides, and the samples accepted since the latest accepted start.
-struct Session {
+struct Sequence {
     meter: Meter,
     rings: [Lent<i64>; 2],
     accepted: Vec<i64>,
     started: bool,
 }
 
-impl Session {
-    fn new() -> Session {
+impl Sequence {
+    fn new() -> Sequence {
         let meter = Meter { m: 0, n: 0, a: 0, b: 0, window: 0 };
-        Session { meter, rings: [Lent::painted(0), Lent::painted(0)], accepted: Vec::new(), started: false }
+        Sequence { meter, rings: [Lent::painted(0), Lent::painted(0)], accepted: Vec::new(), started: false }
     }
 
     fn start(&mut self, tally: &mut Tally, m: u64, length: usize) {
@@ -112,77 +112,77 @@ impl Session {
 }
 
 #[test]
-fn short_sessions() {
+fn short_sequences() {
     let (mut tally, mut random) = (Tally::default(), Random::new(51));
     for _ in 0..1_500 {
-        let mut session = Session::new();
+        let mut sequence = Sequence::new();
         let stream = record(&mut random, 80);
         for &x in &stream {
             match random.below(40) {
                 0 => {
                     let m = random.below(7);
                     let length = (3 * m + random.below(4)).saturating_sub(1) as usize;
-                    session.start(&mut tally, m, length);
+                    sequence.start(&mut tally, m, length);
                 }
-                1 => session.start(&mut tally, random.below(6) + 1, 18),
-                2 => session.start(&mut tally, 10_923 + random.sized(63), 40),
-                3..=6 => session.sample(&mut tally, random.pick(&OUTSIDE)),
-                7 => session.sample_with_short_ring(&mut tally, x),
-                8..=15 => session.report(&mut tally),
-                _ => session.sample(&mut tally, x),
+                1 => sequence.start(&mut tally, random.below(6) + 1, 18),
+                2 => sequence.start(&mut tally, 10_923 + random.sized(63), 40),
+                3..=6 => sequence.sample(&mut tally, random.pick(&OUTSIDE)),
+                7 => sequence.sample_with_short_ring(&mut tally, x),
+                8..=15 => sequence.report(&mut tally),
+                _ => sequence.sample(&mut tally, x),
             }
         }
-        session.report(&mut tally);
+        sequence.report(&mut tally);
     }
     tally.ran(121_500, &[0, 3, 5, 6, 7]);
 }
 
 #[test]
-fn long_sessions() {
+fn long_sequences() {
     let (mut tally, mut random) = (Tally::default(), Random::new(52));
     for (m, spare) in [(1, 0), (2, 1), (100, 0), (5_000, 7), (10_922, 0)] {
-        let mut session = Session::new();
-        session.sample(&mut tally, 0);
-        session.report(&mut tally);
+        let mut sequence = Sequence::new();
+        sequence.sample(&mut tally, 0);
+        sequence.report(&mut tally);
         // A first stretch that the second start throws away.
-        session.start(&mut tally, 3, 9);
+        sequence.start(&mut tally, 3, 9);
         for x in record(&mut random, 20) {
-            session.sample(&mut tally, x);
+            sequence.sample(&mut tally, x);
         }
-        session.start(&mut tally, m, 3 * m as usize + spare);
+        sequence.start(&mut tally, m, 3 * m as usize + spare);
         let stream = record(&mut random, 32_768);
         for (k, &x) in stream.iter().enumerate() {
-            session.sample(&mut tally, x);
+            sequence.sample(&mut tally, x);
             let n = k as u64 + 1;
             if k % 2_999 == 0 || [2 * m - 1, 2 * m, 2 * m + 1, 3 * m - 1, 3 * m, 3 * m + 1, 32_767, 32_768].contains(&n) {
-                session.report(&mut tally);
-                session.sample(&mut tally, if n == 32_768 { 0 } else { random.pick(&OUTSIDE) });
+                sequence.report(&mut tally);
+                sequence.sample(&mut tally, if n == 32_768 { 0 } else { random.pick(&OUTSIDE) });
             }
         }
         // Full: 2 for any sample, also one out of range.
-        session.sample(&mut tally, END + 1);
-        session.start(&mut tally, m, 3 * m as usize - 1);
-        session.report(&mut tally);
-        session.start(&mut tally, m, 3 * m as usize);
-        session.report(&mut tally);
+        sequence.sample(&mut tally, END + 1);
+        sequence.start(&mut tally, m, 3 * m as usize - 1);
+        sequence.report(&mut tally);
+        sequence.start(&mut tally, m, 3 * m as usize);
+        sequence.report(&mut tally);
     }
     tally.ran(164_165, &[0, 2, 3, 6, 7]);
 }
 
 #[test]
-fn widest_sessions() {
+fn widest_sequences() {
     // Blocks of ends: every difference, and every window, as large as it can be.
     let mut tally = Tally::default();
     for m in [1u64, 3, 1_000, 10_922] {
-        let mut session = Session::new();
-        session.start(&mut tally, m, 3 * m as usize);
+        let mut sequence = Sequence::new();
+        sequence.start(&mut tally, m, 3 * m as usize);
         let mut widest = 0;
         for k in 0..32_768 {
-            session.sample(&mut tally, if k / m % 2 == 0 { END } else { -END });
-            widest = widest.max(session.meter.window.abs());
+            sequence.sample(&mut tally, if k / m % 2 == 0 { END } else { -END });
+            widest = widest.max(sequence.meter.window.abs());
         }
         assert_eq!(widest, (m as i64) << 42);
-        session.report(&mut tally);
+        sequence.report(&mut tally);
     }
     tally.ran(131_080, &[0]);
 }

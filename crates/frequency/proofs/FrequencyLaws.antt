@@ -23,7 +23,7 @@ use Rattle.record.specs.Refusals.{none, refused, inRange, rangeRefusal}
 use Rattle.frequency.specs.Frequency.{phases, phasesFrom, firstLeaving, phaseRefusal, differences, frequencyRefusal}
 use Rattle.record.specs.declared.Refusal.{Refusal}
 use Rattle.record.proofs.RangeLaws.{sample-bounded}
-use Rattle.record.proofs.RefusalLaws.{all-in-range, unrefused-in-range, in-range-bounded}
+use Rattle.record.proofs.RefusalLaws.{range-bounded}
 
 -- ---- one reading more, tested against the ends -(low + 1) and high
 
@@ -219,7 +219,7 @@ module _ (xs : List ℤ) where
 
   pub difference-fits : rangeRefusal xs ≡ none → (k i : ℕ) → Fit w64 (differenceOf xs k i)
   difference-fits unrefused k i =
-      let bounded = in-range-bounded xs (unrefused-in-range xs (ap (λ (r : Refusal). r .number) unrefused)) in
+      let bounded = range-bounded xs unrefused in
       omega (arith, bounded k, bounded i, size-is (at xs k), size-is (at xs i))
 
   pub difference-stored : rangeRefusal xs ≡ none → (before : List ℤ) (i : ℕ) → i + 1 < length xs → i < length before → {now : List ℤ} →
@@ -274,6 +274,3 @@ module _ (xs : List ℤ) (room : ℕ) where
       pub range-decides : length xs - 1 ≤ room → frequencyRefusal xs room ≡ rangeRefusal xs
       unfolding frequencyRefusal
       range-decides h = simp (le-ltb 32768 (length xs) few, ne-eqb (length xs) 0 some, le-ltb room (length xs - 1) h)
-
-pub unrefused-range-none : (xs : List ℤ) → rangeRefusal xs .number ≡ 0 → rangeRefusal xs ≡ none
-unrefused-range-none xs e = all-in-range xs (none-fails inRange (pos 0) xs (unrefused-in-range xs e))

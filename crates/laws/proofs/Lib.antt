@@ -8,3 +8,5 @@ pub mod Expressions
 pub mod Machine
 pub mod Polynomials
 pub mod SumLaws
+pub mod LatestLaws
+pub mod RingLaws

@@ -1,8 +1,10 @@
 -- Tests as Booleans, and the facts that they stand for.
-use mathlib.Core.Path.{_≡_, refl, sym, subst}
+use mathlib.Core.Path.{_≡_, refl, sym, subst, _∙_}
 use mathlib.Core.Logic.{_⊎_, inl, inr}
 use mathlib.Core.Bool.{Bool, true, false, cond, not, _&&_, false≢true}
-use lib.Dec.{T}
+use Prim.Native.Nat.{ℕ, _≤_, _<_}
+use borrow.Author.Tests.{le-leb, lt-leb, leb-true, leb-false}
+use lib.Dec.{T, leb}
 
 -- ---- a test that holds, as T and as an equation
 
@@ -21,6 +23,20 @@ module _ {A : Type 0} (a b : A) where
 
   pub choice-false : {t : Bool} → t ≡ false → cond t a b ≡ b
   choice-false e = rw e
+
+-- ---- a choice by the order of two numbers
+
+pub choice-by-order : {A : Type 0} (a b : ℕ) {p q r : A} → (a ≤ b → p ≡ r) → (b < a → q ≡ r) → cond (leb a b) p q ≡ r
+choice-by-order {A} a b {p} {q} {r} at-most above = by-test (leb a b) refl
+  where
+    by-test : (t : Bool) → leb a b ≡ t → cond t p q ≡ r
+    by-test true e = at-most (leb-true a b e)
+    by-test false e = above (leb-false a b e)
+
+-- two choices by one order
+pub choices-agree : {A : Type 0} (a b : ℕ) {p p′ q q′ : A} → (a ≤ b → p ≡ p′) → (b < a → q ≡ q′) → cond (leb a b) p q ≡ cond (leb a b) p′ q′
+choices-agree a b at-most above =
+    choice-by-order a b (λ h. at-most h ∙ sym (choice-true _ _ (le-leb a b h))) (λ h. above h ∙ sym (choice-false _ _ (lt-leb a b h)))
 
 -- ---- negation: what a test's value makes of it
 

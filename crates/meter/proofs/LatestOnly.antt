@@ -12,7 +12,8 @@ use lib.IntN.{ℤ, pos, _+ℤ_, _-ℤ_}
 use lib.ListN.{length, length-set}
 use lib.Seq.{getD-set-same, getD-set-other}
 use Rattle.laws.specs.Sums.{square}
-use Rattle.laws.proofs.Tests.{choice-true, choice-false}
+use Rattle.laws.proofs.RingLaws.{slots-apart, keeps-on}
+use Rattle.laws.proofs.Tests.{choices-agree}
 use Rattle.wide.specs.Wide.{value, halves}
 use Rattle.record.specs.Refusals.{inRange}
 use Rattle.record.specs.declared.Refusal.{Refusal}
@@ -20,15 +21,9 @@ use Rattle.meter.specs.Meter.{slot, ringHolds, newDifference, oldDiffere
 use Rattle.meter.specs.Answers.{meterAnswer, sampleRefusal, sampleAnswer, ringLeft}
 use Rattle.meter.specs.declared.Meter.{Meter}
 use Rattle.meter.specs.declared.MeterAnswer.{MeterAnswer}
-use Rattle.meter.proofs.Stream.{slots-apart, keeps-on}
-use Rattle.meter.proofs.Running.{choice-by-order, meterAfter, Running}
+use Rattle.meter.proofs.Running.{meterAfter, Running}
 use Rattle.meter.proofs.Trace.{Samples, sample-answers, Trace}
 use Rattle.meter.proofs.Condition3.{trace-runs}
-
--- two choices by one order
-choices-agree : {A : Type 0} (a b : ℕ) {p p′ q q′ : A} → (a ≤ b → p ≡ p′) → (b < a → q ≡ q′) → cond (leb a b) p q ≡ cond (leb a b) p′ q′
-choices-agree a b at-most above =
-    choice-by-order a b (λ h. at-most h ∙ sym (choice-true _ _ (le-leb a b h))) (λ h. above h ∙ sym (choice-false _ _ (lt-leb a b h)))
 
 -- ---- one call
 

@@ -13,7 +13,8 @@ use lib.ListN.{length, length-set}
 use Rattle.laws.specs.Sums.{square}
 use Rattle.laws.specs.Lists.{at}
 use Rattle.laws.proofs.Halves.{high-part-below}
-use Rattle.laws.proofs.Tests.{both-true, first-true, second-true}
+use Rattle.laws.proofs.RingLaws.{Keeps, keeps-on}
+use Rattle.laws.proofs.Tests.{choice-by-order, both-true, first-true, second-true}
 use Rattle.wide.specs.Wide.{halves}
 use Rattle.wide.proofs.WideLaws.{value-of-halves}
 use Rattle.record.specs.Refusals.{none, refusedIf, _then_, inRange}
@@ -23,15 +24,7 @@ use Rattle.sums.proofs.PublishedLaws.{allan-so-far-below, modified-so-far-below
 use Rattle.meter.specs.Meter.{factorFits, holdsTogether, slot, ringHolds, newDifference, oldDifference, newWindow, withSample, ringWith, started}
 use Rattle.meter.specs.Answers.{startRefusal, sampleRefusal, reportAnswer, publishedReport}
 use Rattle.meter.specs.declared.Meter.{Meter}
-use Rattle.meter.proofs.Stream.{latest, latest-within, no-allan-sum, no-modified-sum, none-latest, one-longer, old-sample, new-sample, allan-waits, allan-grows, modified-waits, modified-grows, latest-waits, latest-grows, latest-slides, Keeps, keeps-on}
-
--- a choice by an order of two numbers
-pub choice-by-order : {A : Type 0} (a b : ℕ) {p q r : A} → (a ≤ b → p ≡ r) → (b < a → q ≡ r) → cond (leb a b) p q ≡ r
-choice-by-order {A} a b {p} {q} {r} at-most above = by-test (leb a b) refl
-  where
-    by-test : (t : Bool) → leb a b ≡ t → cond t p q ≡ r
-    by-test true e = at-most (leb-true a b e)
-    by-test false e = above (leb-false a b e)
+use Rattle.meter.proofs.Stream.{latest, latest-within, no-allan-sum, no-modified-sum, none-latest, one-longer, old-sample, new-sample, allan-waits, allan-grows, modified-waits, modified-grows, latest-waits, latest-grows, latest-slides}
 
 -- the meter that was started at factor m and has taken samples h
 abbrev pub meterAfter : ℕ → List ℤ → Meter

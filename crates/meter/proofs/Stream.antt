@@ -1,64 +1,17 @@
--- What one sample more at the end of a stream does to its published sums, to the sum of its latest second differences, and to a ring that keeps its
--- latest samples.
+-- What one sample more at the end of a stream does to its published sums, and to the sum of its latest second differences.
 use mathlib.Core.Path.{_≡_, refl, sym, ap, ap₂, _∙_}
 use mathlib.Core.List.{List, [], _∷_, _++_}
 use Prim.Native.Nat.{ℕ, _+_, _-_, _*_, _/_, _%_, _^_, _≤_, _<_}
-use native.Mathlib.Decide.{decLe}
-use native.Mathlib.Nat.{mul-le-mul-right, le-trans, div-add-mod', mod-lt}
 use native.Mathlib.Omega.{arith}
-use borrow.Author.Count.{below-more}
 use lib.IntN.{ℤ, pos, natAbs, _+ℤ_, _-ℤ_}
-use lib.ListN.{length, set, length-append, List·getD-append}
-use lib.Seq.{getD-append-seam, getD-set-same, getD-set-other}
+use lib.ListN.{length, length-append, List·getD-append}
+use lib.Seq.{getD-append-seam}
 use Rattle.laws.specs.Sums.{sumℤ, square}
 use Rattle.laws.specs.Lists.{at}
-use Rattle.laws.proofs.Expressions.{$_, _⊕_, _⊖_, equation}
-use Rattle.laws.proofs.SumLaws.{sum-zero, sum-equal, sumℤ-zero, sumℤ-step, sumℤ-equal, sumℤ-split, sumℤ-within}
+use Rattle.laws.proofs.LatestLaws.{latestOf, latest-of-none, latest-of-equal, latest-of-within, latest-of-grows, latest-of-slides}
+use Rattle.laws.proofs.SumLaws.{sum-zero, sum-equal, sumℤ-equal}
 use Rattle.sums.specs.Published.{difference, windowSum, allanSum, allanCount, modifiedSum}
 use Rattle.sums.proofs.PublishedLaws.{allan-step, modified-step, allan-sum-is, modified-sum-is, difference-within}
-
--- ---- the sum of the latest m of n terms, all of them while n is below m
-
-unfoldable pub latestOf : ℕ → ℕ → (ℕ → ℤ) → ℤ
-latestOf m n f = sumℤ (n - (n - m)) (λ i. f (n - m + i))
-
-module _ (m n : ℕ) (f : ℕ → ℤ) where
-  -- all n terms, less those before the latest m
-  latest-of-is : latestOf m n f ≡ sumℤ n f -ℤ sumℤ (n - m) f
-  unfolding latestOf
-  latest-of-is =
-      let split : n - m + (n - (n - m)) ≡ n = omega arith in
-      rw (← ap (λ (k : ℕ). sumℤ k f) split, sumℤ-split)
-      (equation ($ latestOf m n f) ($ sumℤ (n - m) f ⊕ $ latestOf m n f ⊖ $ sumℤ (n - m) f) (omega arith))
-
-  latest-of-none : n ≡ 0 → latestOf m n f ≡ pos 0
-  unfolding latestOf
-  latest-of-none empty = ap (λ (k : ℕ). sumℤ k (λ i. f (n - m + i))) (omega arith) ∙ sumℤ-zero _
-
-  latest-of-equal : (g : ℕ → ℤ) → ((i : ℕ) → i < n → f i ≡ g i) → latestOf m n f ≡ latestOf m n g
-  unfolding latestOf
-  latest-of-equal g same = sumℤ-equal (n - (n - m)) _ _ (λ i below. same (n - m + i) (omega arith))
-
-  latest-of-within : (b : ℕ) → ((i : ℕ) → natAbs (f i) ≤ b) → natAbs (latestOf m n f) ≤ m * b
-  unfolding latestOf
-  latest-of-within b within = le-trans (sumℤ-within (n - (n - m)) _ b (λ i below. within (n - m + i))) (mul-le-mul-right b (omega arith))
-
-module _ (m n : ℕ) (f : ℕ → ℤ) where
-  -- a term comes
-  latest-of-grows : n < m → latestOf m (n + 1) f ≡ latestOf m n f +ℤ f n
-  latest-of-grows few =
-      let before = $ sumℤ (n - m) f in
-      let same : n + 1 - m ≡ n - m = omega arith in
-      rw (latest-of-is m (n + 1) f, latest-of-is m n f, same, sumℤ-step n f)
-      (equation ($ sumℤ n f ⊕ $ f n ⊖ before) ($ sumℤ n f ⊖ before ⊕ $ f n) (omega arith))
-
-  -- a term comes, and one goes
-  latest-of-slides : m ≤ n → latestOf m (n + 1) f ≡ latestOf m n f +ℤ f n -ℤ f (n - m)
-  latest-of-slides many =
-      let before = $ sumℤ (n - m) f in
-      let one-more : n + 1 - m ≡ n - m + 1 = omega arith in
-      rw (latest-of-is m (n + 1) f, latest-of-is m n f, one-more, sumℤ-step n f, sumℤ-step (n - m) f)
-      (equation ($ sumℤ n f ⊕ $ f n ⊖ (before ⊕ $ f (n - m))) ($ sumℤ n f ⊖ before ⊕ $ f n ⊖ $ f (n - m)) (omega arith))
 
 -- ---- the sum of the latest second differences of a stream, all of them up to m
 
@@ -165,28 +118,3 @@ module _ (xs : List ℤ) (x : ℤ) where
         let one-more : length longer - 2 * m ≡ length xs - 2 * m + 1 = omega (arith, one-longer) in
         let first : length xs - 2 * m - m ≡ length xs - 3 * m = omega arith in
         rw (one-more, ← first, ← old-latest) (latest-of-slides m (length xs - 2 * m) (difference m longer) (omega arith))
-
--- ---- a ring of p slots, number k in slot k mod p
-
--- two numbers less than p apart have two slots
-pub slots-apart : (p k n : ℕ) → k < n → n < k + p → k % p ≡ n % p → ⊥
-slots-apart p k n after near same = by-turn (decLe (n / p) (k / p))
-  where
-    by-turn : Dec (n / p ≤ k / p) → ⊥
-    by-turn (yes low) = omega (arith, mul-le-mul-right p low, div-add-mod' k p, div-add-mod' n p)
-    by-turn (no high) =
-        let next : k / p + 1 ≤ n / p = omega arith in
-        omega (arith, mul-le-mul-right p next, div-add-mod' k p, div-add-mod' n p)
-
--- of the numbers below n the ring has the latest p, f k in the slot of k
-abbrev pub Keeps : ℕ → ℕ → List ℤ → (ℕ → ℤ) → Type 0
-Keeps p n ring f = (k : ℕ) → k < n → n ≤ k + p → at ring (k % p) ≡ f k
-
--- number n is written to its slot
-pub keeps-on : (p n : ℕ) (ring : List ℤ) (v : ℤ) {f g : ℕ → ℤ} → 0 < p → p ≤ length ring → Keeps p n ring f →
-    ((k : ℕ) → k < n → n < k + p → g k ≡ f k) → g n ≡ v → Keeps p (n + 1) (set ring (n % p) v) g
-keeps-on p n ring v {f} {g} some long kept old new =
-    below-more (λ k. n + 1 ≤ k + p → at (set ring (n % p) v) (k % p) ≡ g k) n
-    (λ k before near.
-    getD-set-other ring (n % p) (k % p) v (pos 0) (slots-apart p k n before (omega arith)) ∙ kept k before (omega arith) ∙ sym (old k before (omega arith)))
-    (λ near. getD-set-same ring (n % p) v (pos 0) (omega (arith, mod-lt n some)) ∙ sym new)

@@ -160,3 +160,17 @@ module _ (d : Demand) (m : ℕ) (xs : List ℤ) where
 
   pub unrefused-none : recordRefusal d m xs .number ≡ 0 → recordRefusal d m xs ≡ none
   unrefused-none e = sound-none (unrefused-sound e)
+
+-- ---- the range alone
+
+-- a record that is not refused has no sample out of range
+pub record-in-range : (d : Demand) (m : ℕ) (xs : List ℤ) → recordRefusal d m xs ≡ none → rangeRefusal xs ≡ none
+record-in-range d m xs e = all-in-range xs (none-fails inRange (pos 0) xs (none-sound d m xs e .in-range))
+
+-- no number refused is nothing refused
+pub unrefused-range-none : (xs : List ℤ) → rangeRefusal xs .number ≡ 0 → rangeRefusal xs ≡ none
+unrefused-range-none xs e = all-in-range xs (none-fails inRange (pos 0) xs (unrefused-in-range xs e))
+
+-- then every sample is small
+pub range-bounded : (xs : List ℤ) → rangeRefusal xs ≡ none → (k : ℕ) → natAbs (at xs k) ≤ 2 ^ 40
+range-bounded xs e = in-range-bounded xs (unrefused-in-range xs (ap (λ (r : Refusal). r .number) e))

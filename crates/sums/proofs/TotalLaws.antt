@@ -20,17 +20,10 @@ use Rattle.wide.proofs.WideLaws.{sum-grows}
 use Rattle.record.specs.Refusals.{none, inRange, rangeRefusal, recordRefusal}
 use Rattle.record.specs.declared.Refusal.{Refusal}
 use Rattle.record.specs.declared.Demand.{Demand}
-use Rattle.record.proofs.RefusalLaws.{none-sound, Sound, all-in-range, unrefused-in-range, in-range-bounded}
+use Rattle.record.proofs.RefusalLaws.{none-sound, Sound, range-bounded}
 use Rattle.sums.specs.Published.{difference, windowSum}
 use Rattle.sums.specs.Answers.{allanDemand, modifiedDemand}
 use Rattle.sums.proofs.PublishedLaws.{differenceOf, difference-means, allanSoFar, firstSoFar, modifiedSoFar, first-step, first-within, first-window-is, window-slides-on, difference-within, difference-fits-word, window-within, window-fits-word, allan-so-far-below, modified-so-far-below}
-
--- a record that is not refused has no sample out of range
-pub record-in-range : (d : Demand) (m : ℕ) (xs : List ℤ) → recordRefusal d m xs ≡ none → rangeRefusal xs ≡ none
-record-in-range d m xs e = all-in-range xs (none-fails inRange (pos 0) xs (none-sound d m xs e .in-range))
-
-pub range-bounded : (xs : List ℤ) → rangeRefusal xs ≡ none → (k : ℕ) → natAbs (at xs k) ≤ 2 ^ 40
-range-bounded xs e = in-range-bounded xs (unrefused-in-range xs (ap (λ (r : Refusal). r .number) e))
 
 -- ---- a second difference
 module _ (m : ℕ) (xs : List ℤ) (i : ℕ) (unrefused : rangeRefusal xs ≡ none) where

@@ -5,8 +5,6 @@ use Rattle.wide.proofs.sum.Reads as sum
 use Rattle.wide.proofs.sum.Kinds as sum-kinds
 use Rattle.wide.proofs.at_most.Reads as at-most
 use Rattle.wide.proofs.at_most.Kinds as at-most-kinds
-use Rattle.wide.proofs.product_high.Reads as product-high
-use Rattle.wide.proofs.product_high.Kinds as product-high-kinds
 use Rattle.wide.proofs.product_low.Reads as product-low
 use Rattle.wide.proofs.product_low.Kinds as product-low-kinds
 use Rattle.wide.proofs.product.Reads as product
@@ -27,9 +25,6 @@ sum-single κs args z z′ w w′ first second = (first ∙ sym second, refl)
 
 pub at-most-single : Single 0 at-most-kinds.ps at-most-kinds.r at-most.Post
 at-most-single κs args z z′ w w′ first second = (first ∙ sym second, refl)
-
-pub product-high-single : Single 0 product-high-kinds.ps product-high-kinds.r product-high.Post
-product-high-single κs args z z′ w w′ first second = (first ∙ sym second, refl)
 
 pub product-low-single : Single 0 product-low-kinds.ps product-low-kinds.r product-low.Post
 product-low-single κs args z z′ w w′ first second = (first ∙ sym second, refl)

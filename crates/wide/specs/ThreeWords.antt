@@ -1,4 +1,4 @@
--- What a number in three words stands for.
+-- What a number in three words stands for. Only contracts of private functions cite it.
 use Prim.Native.Nat.{ℕ, _+_, _*_, _^_}
 use Rattle.wide.specs.declared.three_words.ThreeWords.{ThreeWords}
 

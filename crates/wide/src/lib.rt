@@ -51,7 +51,7 @@ pub fn at_most(a: Wide, b: Wide) -> bool
 }
 
 // The high half of a product of two words, by 32-bit limbs.
-pub fn product_high(x: u64, y: u64) -> u64
+pub(crate) fn product_high(x: u64, y: u64) -> u64
     ensures { λ r. ⌜ r ≡ x * y / 2 ^ 64 ⌝ }
 {
     let x_high = x / LIMB;

@@ -3,7 +3,8 @@ use borrow.Author.Needs.{needs}
 use mathlib.Core.Path.{sym, _∙_}
 use native.Mathlib.Omega.{arith}
 use Rattle.record.proofs.AnswerLaws.{call-refused, call-answered}
-use Rattle.frequency.proofs.FrequencyLaws.{samples-too-many, no-sample, no-room-for-differences, range-decides, unrefused-range-none}
+use Rattle.record.proofs.RefusalLaws.{unrefused-range-none}
+use Rattle.frequency.proofs.FrequencyLaws.{samples-too-many, no-sample, no-room-for-differences, range-decides}
 use Rattle.frequency.proofs.frequency_from_phase.Statement.{statement}
 use Rattle.frequency.proofs.frequency_from_phase.Tie as tie
 

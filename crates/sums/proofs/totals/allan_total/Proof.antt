@@ -6,10 +6,10 @@ use native.Mathlib.Omega.{arith}
 use lib.ListN.{length}
 use Rattle.laws.proofs.SumLaws.{sum-zero}
 use Rattle.wide.specs.Wide.{halves}
-use Rattle.record.proofs.RefusalLaws.{none-sound}
+use Rattle.record.proofs.RefusalLaws.{none-sound, record-in-range}
 use Rattle.sums.specs.Answers.{allanDemand}
 use Rattle.sums.proofs.PublishedLaws.{allanSoFar, allan-sum-is}
-use Rattle.sums.proofs.TotalLaws.{record-in-range, allan-grows}
+use Rattle.sums.proofs.TotalLaws.{allan-grows}
 use Rattle.sums.proofs.totals.allan_total.Statement.{statement}
 use Rattle.sums.proofs.totals.allan_total.Tie as tie
 

@@ -6,10 +6,10 @@ use mir.Syntax.{w64}
 use mir.Val.{ofZ}
 use Rattle.laws.proofs.Machine.{operation-fits}
 use Rattle.laws.proofs.SumLaws.{sumℤ-zero}
-use Rattle.record.proofs.RefusalLaws.{none-sound}
+use Rattle.record.proofs.RefusalLaws.{none-sound, record-in-range}
 use Rattle.sums.specs.Answers.{modifiedDemand}
 use Rattle.sums.proofs.PublishedLaws.{firstSoFar}
-use Rattle.sums.proofs.TotalLaws.{record-in-range, grown, first-grows-fits, first-grows, first-grown}
+use Rattle.sums.proofs.TotalLaws.{grown, first-grows-fits, first-grows, first-grown}
 use Rattle.sums.proofs.totals.first_window.Statement.{statement}
 use Rattle.sums.proofs.totals.first_window.Tie as tie
 

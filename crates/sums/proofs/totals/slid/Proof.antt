@@ -6,7 +6,8 @@ use mir.Syntax.{w64}
 use Rattle.laws.proofs.Machine.{operation-fits, left-of}
 use Rattle.sums.specs.Published.{difference}
 use Rattle.sums.specs.Answers.{modifiedDemand}
-use Rattle.sums.proofs.TotalLaws.{record-in-range, moved, window-moves-fits, window-moves}
+use Rattle.record.proofs.RefusalLaws.{record-in-range}
+use Rattle.sums.proofs.TotalLaws.{moved, window-moves-fits, window-moves}
 use Rattle.sums.proofs.totals.slid.Statement.{statement}
 use Rattle.sums.proofs.totals.slid.Tie as tie
 
