@@ -360,6 +360,20 @@ def drawn_numbers():
         yield f"drawn number of {r}: {drawn(r) if 1 <= r <= 2**63 else 'refused 3 at 0'}"
 
 
+def fraction(total, m, count, times):
+    """5, 1, 2, 3; else the variance in lowest terms."""
+    if not 1 <= m <= 10922:
+        return "refused 5 at 0"
+    if count == 0:
+        return "refused 1 at 0"
+    if count > 32768:
+        return "refused 2 at 0"
+    if total >= 2**126:
+        return "refused 3 at 0"
+    v = Fraction(total, times * m * m * count)
+    return f"{halves(v.numerator)}/{v.denominator}"
+
+
 def dot(total, m, count, times):
     """The deviation's order, 5, 1, 2, 3, 3, where 1 is the dot too few."""
     if not 1 <= m <= 10922:
@@ -381,8 +395,9 @@ def dots():
         (2**126, 1, 0), (2**126, 1, 1), (2**126, 1, 32769), (2**126 - 1, 1, 1), (2**85 + 2**24, 1, 1), (2**85 + 2**24 + 1, 1, 1),
         (2**126 - 1, 10922, 32768),
     ):
-        for kind, times in ("Allan", 2), ("time", 6):
-            yield f"{kind} dot of {halves(total)} of {count}, m = {m}: {dot(total, m, count, times)}"
+        for what, work in ("fraction", fraction), ("dot", dot):
+            for kind, times in ("Allan", 2), ("time", 6):
+                yield f"{kind} {what} of {halves(total)} of {count}, m = {m}: {work(total, m, count, times)}"
 
 
 def noise(r1, r2):
@@ -448,7 +463,104 @@ def bars():
         yield f"bar of {r} with type {place}, M = {m}: {bar(r, (99, 99, 87, 77, 75)[place], m)}"
 
 
-PARTS = refusals, wide_numbers, sums, streams, floats, buffers, drawn_numbers, dots, types, bars
+# ---- meters made by hand, and starts
+
+def meter_words(m, n, a, b, window):
+    return f"meter m {m} n {n} A {halves(a)} B {halves(b)} window {window}"
+
+
+def holds_together(m, n, a, b, window):
+    return 1 <= m <= 10922 and n <= 32768 and abs(window) <= m * 2**42 and a < 2**126 and b < 2**126
+
+
+def report(meter):
+    if not holds_together(*meter):
+        return " refused 7 at 0"
+    m, n, a, b, _ = meter
+    allan = f"{halves(a)} of {n - 2 * m}" if n >= 2 * m + 1 else "refused 1"
+    modified = f"{halves(b)} of {n - 3 * m + 1}" if n >= 3 * m else "refused 1"
+    return f" {allan} {modified}"
+
+
+def sample(meter, ring, x):
+    """7, 2, 3 at place 0 and the meter as it came, or no number and the meter with the sample."""
+    m, n, a, b, window = meter
+    if not holds_together(*meter) or len(ring) < 3 * m:
+        return 7, meter
+    old = {j: ring[(n - j * m) % (3 * m)] for j in (1, 2, 3) if n >= max(2, j) * m}
+    if any(abs(v) > END for v in old.values()):
+        return 7, meter
+    if n == 32768:
+        return 2, meter
+    if abs(x) > END:
+        return 3, meter
+    if old:
+        d = x - 2 * old[1] + old[2]
+        a += d * d
+        window += d - (old[1] - 2 * old[2] + old[3] if 3 in old else 0)
+    if n + 1 >= 3 * m:
+        b += window * window
+    return None, (m, n + 1, a, b, window)
+
+
+def outcome(number, meter):
+    return f"{f'refused {number} at 0, ' if number else ''}{meter_words(*meter)}"
+
+
+HIGH = 2**62 * WORD
+METERS = (
+    (0, 0, 0, 0, 0, 5, 9), (10923, 0, 0, 0, 0, 5, 9), (10922, 0, 0, 0, 0, 5, 9), (4, 0, 0, 0, 0, 5, 9), (3, 0, 0, 0, 0, 5, 9), (3, 0, 0, 0, 0, 5, 0),
+    (3, 5, 0, 0, 0, 5, 2), (3, 6, 0, 0, 0, 5, 2), (3, 6, 0, 0, 0, 5, 3), (3, 6, 0, 0, 0, 5, 0), (3, 9, 0, 0, 0, 5, 0), (3, 9, 0, 0, 0, 5, 1),
+    (3, 8, 0, 0, -7, END, 9), (3, 8, 0, 0, -7, END + 1, 9), (1, 32767, 0, 0, 0, -END, 9), (1, 32768, 0, 0, 0, 5, 9), (1, 32768, 0, 0, 0, 5, 0),
+    (1, 32769, 0, 0, 0, 5, 9), (1, 5, HIGH - WORD, 0, 0, 5, 9), (1, 5, HIGH, 0, 0, 5, 9), (1, 5, 0, HIGH - WORD, 0, 5, 9), (1, 5, 0, HIGH, 0, 5, 9),
+    (1, 5, 0, 0, 2**42, 5, 9), (1, 5, 0, 0, 2**42 + 1, 5, 9), (1, 5, 0, 0, -2**42, -5, 9), (1, 5, 0, 0, -2**42 - 1, -5, 9),
+    (10922, 5, 0, 0, 10922 * 2**42, 5, 9), (10922, 5, 0, 0, 10922 * 2**42 + 1, 5, 9),
+)
+
+
+def meters():
+    for *meter, x, slot in METERS:
+        yield f"{meter_words(*meter)}: report{report(meter)}"
+        ring = [END + 1 if i == slot else 0 for i in range(9)]
+        bad = f", slot {slot} out of range" if slot < 9 else ""
+        yield f"{meter_words(*meter)} and {x}{bad}: {outcome(*sample(meter, ring, x))}"
+    for m, length in (0, 32766), (10923, 32766), (10922, 32766), (10922, 32765), (1, 2), (1, 3), (2, 5), (2, 6), (0, 0):
+        number = 5 if not 1 <= m <= 10922 else 6 if length < 3 * m else None
+        yield f"start at {m} with a ring of {length}: {outcome(number, (0, 7, 1, 2 * WORD + 3, -4) if number else (m, 0, 0, 0, 0))}"
+
+
+# ---- files
+
+def file_of(kind, values, room):
+    """9 at place 5, 2, 6, then 3 at the first value outside."""
+    if kind not in (0, 1):
+        return (9, 5), None
+    if len(values) > 32768 - kind:
+        return (2, 0), None
+    if room < 8 + 8 * len(values):
+        return (6, 0), None
+    bad = next((i for i, v in enumerate(values) if abs(v) > END * (1 + kind)), None)
+    if bad is not None:
+        return (3, bad), None
+    header = [0x50, 0x48, 0x52, 1, 0, kind, len(values) % 256, len(values) // 256]
+    return None, header + [v // 256**k % 256 for v in values for k in range(8)]
+
+
+def files():
+    for kind, *values in (
+        (0, 1, -1), (1, 1, -1), (0, END, -END), (1, 2 * END, -2 * END), (0, 0, 2 * END), (1, 2 * END + 1, 0), (1, 0, 1 - 2**63), (2, 1, -1),
+    ):
+        r, out = file_of(kind, values, 26)
+        shown = " ".join(f"{byte:02x}" for byte in as_left(out, 26))
+        yield f"file of kind {kind}, {values[0]} {values[1]}: {written(r, out)}; buffer {shown}"
+    for kind, n, room in (
+        (0, 0, 7), (0, 0, 8), (0, 1, 15), (0, 1, 16), (0, 32768, 262151), (0, 32768, 262152), (0, 32769, 262160), (1, 32767, 262144),
+        (1, 32768, 262160), (2, 32769, 0), (256, 0, 8), (0, 32769, 0),
+    ):
+        yield f"file of kind {kind}, {n} noughts, buffer of {room}: {written(*file_of(kind, [0] * n, room))}"
+
+
+PARTS = refusals, wide_numbers, sums, streams, meters, files, floats, buffers, drawn_numbers, dots, types, bars
 
 
 def main():

@@ -3,6 +3,7 @@ use crate::print::double;
 use crate::print::number;
 use crate::print::refusal;
 use crate::print::text;
+use plot::bars::Bar;
 use plot::noise::Noise;
 
 // Deviation r, noise type and M. The types are numbered as the outline's table has them, from alpha 2 down.
@@ -42,6 +43,23 @@ fn line(row: [u64; 3]) {
     let r = row[0];
     let place = row[1];
     let m = row[2];
+    heading(r, place, m);
+    let answer = plot::bars::bars(r, type_at(place), m);
+    if answer.number != 0 {
+        refusal(answer.number, answer.place);
+        text(b"\n");
+        return;
+    }
+    doubles(answer.bar);
+    if answer.touches {
+        text(b", flag set\n");
+        return;
+    }
+    text(b", flag not set\n");
+}
+
+// The deviation, the type and M.
+fn heading(r: u64, place: u64, m: u64) {
     text(b"bar of ");
     number(r);
     text(b" with type ");
@@ -49,23 +67,15 @@ fn line(row: [u64; 3]) {
     text(b", M = ");
     number(m);
     text(b": ");
-    let answer = plot::bars::bars(r, type_at(place), m);
-    if answer.number != 0 {
-        refusal(answer.number, answer.place);
-        text(b"\n");
-        return;
-    }
-    let bar = answer.bar;
+}
+
+// The three doubles of a bar.
+fn doubles(bar: Bar) {
     double(bar.low);
     text(b" ");
     double(bar.mid);
     text(b" ");
     double(bar.high);
-    if answer.touches {
-        text(b", flag set\n");
-        return;
-    }
-    text(b", flag not set\n");
 }
 
 // The types in the order of the table.

@@ -4,6 +4,7 @@ use crate::print::refusal;
 use crate::print::signed;
 use crate::print::sum;
 use crate::print::text;
+use crate::print::values;
 use crate::records;
 use record::CountAnswer;
 
@@ -81,7 +82,7 @@ fn row_lines(row: [i64; 4]) {
     filled(DIFFERENCES, row);
     filled(REMOVAL, row);
     text(b"drift of");
-    values(row);
+    values(&row);
     drift(&row);
 }
 
@@ -89,14 +90,10 @@ fn row_lines(row: [i64; 4]) {
 fn filled(entry: usize, row: [i64; 4]) {
     let mut buffer = [7i64; 6];
     name(entry);
-    values(row);
+    values(&row);
     count(fill(entry, &row, &mut buffer));
     text(b"; buffer");
-    values([buffer[0], buffer[1], buffer[2], buffer[3]]);
-    text(b" ");
-    signed(buffer[4]);
-    text(b" ");
-    signed(buffer[5]);
+    values(&buffer);
     text(b"\n");
 }
 
@@ -116,18 +113,6 @@ fn name(entry: usize) {
         1 => text(b"differences of"),
         _ => text(b"without drift"),
     }
-}
-
-// Four values.
-fn values(row: [i64; 4]) {
-    text(b" ");
-    signed(row[0]);
-    text(b" ");
-    signed(row[1]);
-    text(b" ");
-    signed(row[2]);
-    text(b" ");
-    signed(row[3]);
 }
 
 // How many entries were written, or the refusal.
@@ -177,15 +162,20 @@ fn size(row: [usize; 3]) {
     if 32769 < room {
         return;
     }
+    heading(entry, length, room);
+    let noughts = [0i64; 32769];
+    let mut buffer = [7i64; 32769];
+    count(fill(entry, &noughts[..length], &mut buffer[..room]));
+    text(b"\n");
+}
+
+// The entry, how many noughts, and the buffer's length.
+fn heading(entry: usize, length: usize, room: usize) {
     name(entry);
     text(b" ");
     number(length as u64);
     text(b" noughts, buffer of ");
     number(room as u64);
-    let noughts = [0i64; 32769];
-    let mut buffer = [7i64; 32769];
-    count(fill(entry, &noughts[..length], &mut buffer[..room]));
-    text(b"\n");
 }
 
 // The lines of one long record.

@@ -1,10 +1,11 @@
-// Plot dots of sums with a factor and a count, Allan and time.
+// Fractions and plot dots of sums with a factor and a count, Allan and time.
 use crate::print::double;
 use crate::print::number;
 use crate::print::refusal;
 use crate::print::text;
 use plot::dots::Dot;
 use plot::dots::DotAnswer;
+use sums::FractionAnswer;
 use wide::Wide;
 
 // The sum's high and low half, m and the count.
@@ -43,13 +44,29 @@ pub fn figures() {
     }
 }
 
-// Two lines: the Allan dot and the time dot of one sum.
+// Four lines: the two fractions and the two dots of one sum.
 fn lines(row: [u64; 4]) {
+    fractions(row);
+    dots(row);
+}
+
+// The Allan fraction and the time fraction.
+fn fractions(row: [u64; 4]) {
     let m = row[2];
     let count = row[3];
-    heading(b"Allan", row);
+    heading(b"Allan fraction", row);
+    fraction(sums::allan_fraction(sum_of(row), m, count));
+    heading(b"time fraction", row);
+    fraction(sums::time_fraction(sum_of(row), m, count));
+}
+
+// The Allan dot and the time dot.
+fn dots(row: [u64; 4]) {
+    let m = row[2];
+    let count = row[3];
+    heading(b"Allan dot", row);
     dot(plot::dots::allan_dot(sum_of(row), m, count));
-    heading(b"time", row);
+    heading(b"time dot", row);
     dot(plot::dots::time_dot(sum_of(row), m, count));
 }
 
@@ -61,10 +78,10 @@ fn sum_of(row: [u64; 4]) -> Wide {
     }
 }
 
-// The kind of dot, its sum and its count.
+// What is worked, the sum, its count and the factor.
 fn heading(kind: &[u8], row: [u64; 4]) {
     text(kind);
-    text(b" dot of ");
+    text(b" of ");
     number(row[0]);
     text(b":");
     number(row[1]);
@@ -73,6 +90,21 @@ fn heading(kind: &[u8], row: [u64; 4]) {
     text(b", m = ");
     number(row[2]);
     text(b": ");
+}
+
+// A fraction or its refusal, at the line's end.
+fn fraction(answer: FractionAnswer) {
+    if answer.number != 0 {
+        refusal(answer.number, answer.place);
+        text(b"\n");
+        return;
+    }
+    number(answer.high);
+    text(b":");
+    number(answer.low);
+    text(b"/");
+    number(answer.denominator);
+    text(b"\n");
 }
 
 // A dot or its refusal, at the line's end.

@@ -2,8 +2,8 @@
 use crate::print::number;
 use crate::print::part;
 use crate::print::refusal;
-use crate::print::signed;
 use crate::print::text;
+use crate::print::values;
 use readings::FloatSums;
 
 // Whole readings, for records of any length up to theirs.
@@ -89,14 +89,8 @@ fn three(words: &[u8], readings: &[f64]) {
     text(words);
     text(b" at m = 1: ");
     sums(answer);
-    text(b"; buffer ");
-    signed(buffer[0]);
-    text(b" ");
-    signed(buffer[1]);
-    text(b" ");
-    signed(buffer[2]);
-    text(b" ");
-    signed(buffer[3]);
+    text(b"; buffer");
+    values(&buffer);
     text(b"\n");
 }
 
@@ -120,6 +114,15 @@ fn size(row: [usize; 3]) {
     if 9 < room {
         return;
     }
+    heading(m, count, room);
+    let squares = SQUARES;
+    let mut buffer = [7i64; 9];
+    sums(readings::float_sums(&squares[..count], m as u64, &mut buffer[..room]));
+    text(b"\n");
+}
+
+// The number of readings, the buffer's length and the factor.
+fn heading(m: usize, count: usize, room: usize) {
     text(b"float readings, ");
     number(count as u64);
     text(b" squares, buffer of ");
@@ -127,10 +130,6 @@ fn size(row: [usize; 3]) {
     text(b", m = ");
     number(m as u64);
     text(b": ");
-    let squares = SQUARES;
-    let mut buffer = [7i64; 9];
-    sums(readings::float_sums(&squares[..count], m as u64, &mut buffer[..room]));
-    text(b"\n");
 }
 
 // A record of 32,768 readings is taken, and one of 32,769 is not.

@@ -1,12 +1,14 @@
 // Figures that the library works as it runs, a line each: the outline's that bear no star, numbers at the ends of what two halves hold, long
-// records at many factors, streams fed to the running meter, float readings, buffers that are filled, and what the app draws. A second
-// implementation, tests/figures.py, works every line out again.
+// records at many factors, streams fed to the running meter, meters made by hand, files, float readings, buffers that are filled, and what the app
+// draws. A second implementation, tests/figures.py, works every line out again.
 mod bars;
 mod buffers;
 mod dots;
 mod drawn;
+mod files;
 mod floats;
 mod halves;
+mod meters;
 mod print;
 mod records;
 mod refusals;
@@ -19,6 +21,8 @@ fn main() {
     halves::figures();
     sweep::figures();
     streams::figures();
+    meters::figures();
+    files::figures();
     floats::figures();
     buffers::figures();
     drawn::figures();

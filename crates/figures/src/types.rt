@@ -115,6 +115,12 @@ fn size(name: &[u8], samples: &[i64], row: [usize; 2]) {
     if samples.len() < length {
         return;
     }
+    heading(name, m, length);
+    alpha(plot::noise::noise_of_record(&samples[..length], m as u64));
+}
+
+// The record's name, factor and length.
+fn heading(name: &[u8], m: usize, length: usize) {
     text(b"noise type of ");
     text(name);
     text(b" m ");
@@ -122,7 +128,6 @@ fn size(name: &[u8], samples: &[i64], row: [usize; 2]) {
     text(b" N ");
     number(length as u64);
     text(b": ");
-    alpha(plot::noise::noise_of_record(&samples[..length], m as u64));
 }
 
 // A type by its alpha, or the refusal, at the line's end.

@@ -21,26 +21,8 @@ returns c = search needs
 returns-2 : tie.Need-returns-2
 returns-2 c = search needs
 
-name-requires : tie.Need-name-requires
-name-requires c κs = search needs
-
-slice-aggregate-text : tie.Need-slice-aggregate-text
-slice-aggregate-text c = search needs
-
-text-requires : tie.Need-text-requires
-text-requires c κs = search needs
-
-number-requires : tie.Need-number-requires
-number-requires c κs = search needs
-
-slice-aggregate-text-2 : tie.Need-slice-aggregate-text-2
-slice-aggregate-text-2 c = search needs
-
-text-requires-2 : tie.Need-text-requires-2
-text-requires-2 c κs = search needs
-
-number-requires-2 : tie.Need-number-requires-2
-number-requires-2 c κs = search needs
+heading-requires : tie.Need-heading-requires
+heading-requires c κs = search needs
 
 array-share-prefix-noughts : tie.Need-array-share-prefix-noughts
 array-share-prefix-noughts c = search needs
@@ -60,11 +42,11 @@ fill-requires c κs = search needs
 count-requires : tie.Need-count-requires
 count-requires c κs = search needs
 
-slice-aggregate-text-3 : tie.Need-slice-aggregate-text-3
-slice-aggregate-text-3 c = search needs
+slice-aggregate-text : tie.Need-slice-aggregate-text
+slice-aggregate-text c = search needs
 
-text-requires-3 : tie.Need-text-requires-3
-text-requires-3 c κs = search needs
+text-requires : tie.Need-text-requires
+text-requires c κs = search needs
 
 returns-3 : tie.Need-returns-3
 returns-3 c = search needs
@@ -78,19 +60,13 @@ size-spec =
     array-read-room
     returns
     returns-2
-    name-requires
-    slice-aggregate-text
-    text-requires
-    number-requires
-    slice-aggregate-text-2
-    text-requires-2
-    number-requires-2
+    heading-requires
     array-share-prefix-noughts
     slice-aggregate-fill
     array-borrow-prefix-buffer
     slice-aggregate-fill-2
     fill-requires
     count-requires
-    slice-aggregate-text-3
-    text-requires-3
+    slice-aggregate-text
+    text-requires
     returns-3)

@@ -21,38 +21,8 @@ returns c = search needs
 returns-2 : tie.Need-returns-2
 returns-2 c = search needs
 
-slice-aggregate-text : tie.Need-slice-aggregate-text
-slice-aggregate-text c = search needs
-
-text-requires : tie.Need-text-requires
-text-requires c κs = search needs
-
-number-requires : tie.Need-number-requires
-number-requires c κs = search needs
-
-slice-aggregate-text-2 : tie.Need-slice-aggregate-text-2
-slice-aggregate-text-2 c = search needs
-
-text-requires-2 : tie.Need-text-requires-2
-text-requires-2 c κs = search needs
-
-number-requires-2 : tie.Need-number-requires-2
-number-requires-2 c κs = search needs
-
-slice-aggregate-text-3 : tie.Need-slice-aggregate-text-3
-slice-aggregate-text-3 c = search needs
-
-text-requires-3 : tie.Need-text-requires-3
-text-requires-3 c κs = search needs
-
-number-requires-3 : tie.Need-number-requires-3
-number-requires-3 c κs = search needs
-
-slice-aggregate-text-4 : tie.Need-slice-aggregate-text-4
-slice-aggregate-text-4 c = search needs
-
-text-requires-4 : tie.Need-text-requires-4
-text-requires-4 c κs = search needs
+heading-requires : tie.Need-heading-requires
+heading-requires c κs = search needs
 
 array-share-prefix-squares : tie.Need-array-share-prefix-squares
 array-share-prefix-squares c = search needs
@@ -72,11 +42,11 @@ float-sums-requires c κs = search needs
 sums-requires : tie.Need-sums-requires
 sums-requires c κs = search needs
 
-slice-aggregate-text-5 : tie.Need-slice-aggregate-text-5
-slice-aggregate-text-5 c = search needs
+slice-aggregate-text : tie.Need-slice-aggregate-text
+slice-aggregate-text c = search needs
 
-text-requires-5 : tie.Need-text-requires-5
-text-requires-5 c κs = search needs
+text-requires : tie.Need-text-requires
+text-requires c κs = search needs
 
 returns-3 : tie.Need-returns-3
 returns-3 c = search needs
@@ -90,23 +60,13 @@ size-spec =
     array-read-room
     returns
     returns-2
-    slice-aggregate-text
-    text-requires
-    number-requires
-    slice-aggregate-text-2
-    text-requires-2
-    number-requires-2
-    slice-aggregate-text-3
-    text-requires-3
-    number-requires-3
-    slice-aggregate-text-4
-    text-requires-4
+    heading-requires
     array-share-prefix-squares
     slice-aggregate-float-sums
     array-borrow-prefix-buffer
     slice-aggregate-float-sums-2
     float-sums-requires
     sums-requires
-    slice-aggregate-text-5
-    text-requires-5
+    slice-aggregate-text
+    text-requires
     returns-3)
