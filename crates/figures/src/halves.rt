@@ -7,6 +7,14 @@ use wide::Wide;
 const MOST: u64 = 18446744073709551615;
 
 pub fn figures() {
+    products_and_sums();
+    quotients();
+    roots();
+    orders();
+}
+
+// Products and sums that pass one half, and the sum that passes both.
+fn products_and_sums() {
     line(b"(2^64 - 1) squared", wide::product(MOST, MOST));
     line(b"2^41 squared", wide::product(2199023255552, 2199023255552));
     line(b"2^64 - 1 and 1", wide::sum(low(MOST), low(1)));
@@ -14,6 +22,10 @@ pub fn figures() {
         b"2^128 - 1 and 1",
         wide::sum(Wide { hi: MOST, lo: MOST }, low(1)),
     );
+}
+
+// Quotients, and the one that is not defined.
+fn quotients() {
     quotient(
         b"2^126 by 7",
         Wide {
@@ -24,6 +36,10 @@ pub fn figures() {
     );
     quotient(b"2^128 - 1 by 2^64 - 1", Wide { hi: MOST, lo: MOST }, MOST);
     quotient(b"5 by 0", low(5), 0);
+}
+
+// Roots at the limit of a sum and at the end of both halves.
+fn roots() {
     root(
         b"2^126 - 1",
         Wide {
@@ -39,6 +55,10 @@ pub fn figures() {
         },
     );
     root(b"2^128 - 1", Wide { hi: MOST, lo: MOST });
+}
+
+// The outline's deviation passes its test, and one more does not.
+fn orders() {
     order(
         b"1482910 squared times 8, 16 times 2^40",
         wide::square_at_most(1482910, 8, low(16)),

@@ -1,5 +1,6 @@
-// Bytes and numbers to standard output.
+// Bytes, numbers, sums and refusals to standard output.
 use libc::STDOUT_FILENO;
+use sums::Part;
 
 // Bytes as they stand.
 pub fn text(bytes: &[u8]) {
@@ -9,4 +10,64 @@ pub fn text(bytes: &[u8]) {
 // A number in decimal digits.
 pub fn number(n: u64) {
     io::print_decimal(STDOUT_FILENO, n);
+}
+
+// A signed number in decimal digits.
+pub fn signed(n: i64) {
+    if n < 0 {
+        text(b"-");
+    }
+    number(wide::size(n));
+}
+
+// Signed numbers, each after a space.
+pub fn values(row: &[i64]) {
+    let mut i: usize = 0;
+    while i < row.len() {
+        text(b" ");
+        signed(row[i]);
+        i += 1;
+    }
+}
+
+// A byte in two hexadecimal digits.
+pub fn byte(b: u8) {
+    io::print_hex(STDOUT_FILENO, b as u64, 2);
+}
+
+// A double, exactly: its 64 bits in 16 hexadecimal digits. What is not a number has many patterns, and is called so.
+pub fn double(x: f64) {
+    if x != x {
+        text(b"not a number");
+        return;
+    }
+    io::print_hex(STDOUT_FILENO, f64::to_bits(x), 16);
+}
+
+// A refusal's number and place.
+pub fn refusal(by: u64, place: u64) {
+    text(b"refused ");
+    number(by);
+    text(b" at ");
+    number(place);
+}
+
+// A sum's halves and its count.
+pub fn sum(high: u64, low: u64, count: u64) {
+    number(high);
+    text(b":");
+    number(low);
+    text(b" of ");
+    number(count);
+}
+
+// A part of an answer: a sum with its count, or its own refusal.
+pub fn part(part: Part) {
+    if part.number != 0 {
+        text(b" refused ");
+        number(part.number);
+        return;
+    }
+    text(b" ");
+    sum(part.high, part.low, part.count);
 }

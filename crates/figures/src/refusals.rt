@@ -1,5 +1,6 @@
 // Which records are taken, and what the others are refused for.
 use crate::print::number;
+use crate::print::refusal;
 use crate::print::text;
 use record::Demand;
 use record::Refusal;
@@ -80,15 +81,13 @@ fn of_noughts(sum: &[u8], demand: Demand, m: u64, samples: &[i64]) {
 }
 
 // The rest of a line: taken, or refused by a number at a place.
-fn verdict(refusal: Refusal) {
-    let by = refusal.number;
+fn verdict(found: Refusal) {
+    let by = found.number;
     if by == 0 {
         text(b": taken\n");
         return;
     }
-    text(b": refused ");
-    number(by);
-    text(b" at ");
-    number(refusal.place);
+    text(b": ");
+    refusal(by, found.place);
     text(b"\n");
 }

@@ -1,5 +1,6 @@
 // Streams fed to the running meter, sample by sample, beside the sums of the whole record.
 use crate::print::number;
+use crate::print::part;
 use crate::print::text;
 use crate::records;
 use meter::Meter;
@@ -48,13 +49,13 @@ fn compare(name: &[u8], samples: &[i64], m: u64) {
     let report = last.report();
     heading(name, m, samples.len());
     text(b" meter");
-    print_part(report.allan);
-    print_part(report.modified);
+    part(report.allan);
+    part(report.modified);
     text(b"\n");
     heading(name, m, samples.len());
     text(b" record");
-    print_part(part_of(sums::allan_sum(samples, m)));
-    print_part(part_of(sums::modified_sum(samples, m)));
+    part(part_of(sums::allan_sum(samples, m)));
+    part(part_of(sums::modified_sum(samples, m)));
     text(b"\n");
 }
 
@@ -114,19 +115,4 @@ fn part_of(answer: SumAnswer) -> Part {
         low: answer.low,
         count: answer.count,
     }
-}
-
-// A sum with its count, or its refusal.
-fn print_part(sum: Part) {
-    if sum.number != 0 {
-        text(b" refused ");
-        number(sum.number);
-        return;
-    }
-    text(b" ");
-    number(sum.high);
-    text(b":");
-    number(sum.low);
-    text(b" of ");
-    number(sum.count);
 }

@@ -1,5 +1,7 @@
 // Sums, fractions and deviations of long records at many factors and lengths.
 use crate::print::number;
+use crate::print::refusal;
+use crate::print::sum;
 use crate::print::text;
 use crate::records;
 use sums::SumAnswer;
@@ -73,13 +75,14 @@ fn allan(answer: SumAnswer, m: u64) {
     text(b" Allan ");
     let by = answer.number;
     if by != 0 {
-        refused(by, answer.place);
+        refusal(by, answer.place);
+        text(b"\n");
         return;
     }
-    let sum = sum_of(answer);
-    sum_and_count(sum, answer.count);
-    fraction(variances::allan_fraction(sum, m, answer.count));
-    deviation(variances::allan_deviation(sum, m, answer.count));
+    let total = sum_of(answer);
+    sum(total.hi, total.lo, answer.count);
+    fraction(variances::allan_fraction(total, m, answer.count));
+    deviation(variances::allan_deviation(total, m, answer.count));
 }
 
 // The modified sum, its count, the time variance and its deviation.
@@ -87,13 +90,14 @@ fn modified(answer: SumAnswer, m: u64) {
     text(b" modified ");
     let by = answer.number;
     if by != 0 {
-        refused(by, answer.place);
+        refusal(by, answer.place);
+        text(b"\n");
         return;
     }
-    let sum = sum_of(answer);
-    sum_and_count(sum, answer.count);
-    fraction(variances::time_fraction(sum, m, answer.count));
-    deviation(variances::time_deviation(sum, m, answer.count));
+    let total = sum_of(answer);
+    sum(total.hi, total.lo, answer.count);
+    fraction(variances::time_fraction(total, m, answer.count));
+    deviation(variances::time_deviation(total, m, answer.count));
 }
 
 // The sum in an answer.
@@ -102,15 +106,6 @@ fn sum_of(answer: SumAnswer) -> Wide {
         hi: answer.high,
         lo: answer.low,
     }
-}
-
-// A sum's halves and its count.
-fn sum_and_count(sum: Wide, count: u64) {
-    number(sum.hi);
-    text(b":");
-    number(sum.lo);
-    text(b" of ");
-    number(count);
 }
 
 // A fraction, its numerator in halves.
@@ -127,14 +122,5 @@ fn fraction(answer: FractionAnswer) {
 fn deviation(answer: DeviationAnswer) {
     text(b", ");
     number(answer.deviation);
-    text(b"\n");
-}
-
-// A refusal, at the line's end.
-fn refused(by: u64, place: u64) {
-    text(b"refused ");
-    number(by);
-    text(b" at ");
-    number(place);
     text(b"\n");
 }
