@@ -30,11 +30,6 @@ pub fn values(row: &[i64]) {
     }
 }
 
-// A byte in two hexadecimal digits.
-pub fn byte(b: u8) {
-    io::print_hex(STDOUT_FILENO, b as u64, 2);
-}
-
 // A double, exactly: its 64 bits in 16 hexadecimal digits. What is not a number has many patterns, and is called so.
 pub fn double(x: f64) {
     if x != x {
