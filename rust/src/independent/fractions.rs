@@ -59,7 +59,7 @@ pub fn product(x: u128, y: u128) -> (u128, u128) {
 }
 
 /// Whether r^2 D is not above A times 2^40.
-fn not_above(r: u64, denominator: u128, sum: u128) -> bool {
+pub fn not_above(r: u64, denominator: u128, sum: u128) -> bool {
     product(r as u128 * r as u128, denominator) <= product(sum, 1 << 40)
 }
 

@@ -63,7 +63,7 @@ pub(crate) fn ask_samples(samples: &[i64]) -> Answer<()> {
 }
 
 /// The greatest whole number up to `top` that passes a test which 0 passes and which, once failed, stays failed.
-pub(crate) fn greatest(top: u64, passes: impl Fn(u64) -> bool) -> u64 {
+pub fn greatest(top: u64, passes: impl Fn(u64) -> bool) -> u64 {
     let (mut low, mut high) = (0, top);
     while low < high {
         let middle = high - (high - low) / 2;
