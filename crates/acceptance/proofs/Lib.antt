@@ -1,1 +1,3 @@
 pub mod Figures
+pub mod NoughtLaws
+pub mod Condition1

@@ -1,6 +1,5 @@
--- Each answer where it is refused and where it is given; beside a refusal every value is nought.
+-- Each answer where it is refused and where it is given.
 use mathlib.Core.Path.{_≡_, refl, ap, _∙_}
-use mathlib.Core.Bool.{Bool, true, false, cond}
 use mathlib.Core.List.{List}
 use Prim.Native.Nat.{ℕ, _/_, _%_, _^_, _≤_, _<_}
 use borrow.Author.Tests.{eq-eqb, ne-eqb, lt-ltb, le-ltb}
@@ -42,17 +41,6 @@ givenDeviation r = record { number = 0; place = 0; deviation = r }
 abbrev pub noDeviation : Refusal → DeviationAnswer
 noDeviation refusal = record { number = refusal .number; place = refusal .place; deviation = 0 }
 
--- every value of an answer is nought
-
-abbrev pub SumNought : SumAnswer → Type 0
-SumNought a = (a .high ≡ 0) × (a .low ≡ 0) × (a .count ≡ 0)
-
-abbrev pub FractionNought : FractionAnswer → Type 0
-FractionNought a = (a .high ≡ 0) × (a .low ≡ 0) × (a .denominator ≡ 0)
-
-abbrev pub DeviationNought : DeviationAnswer → Type 0
-DeviationNought a = a .deviation ≡ 0
-
 -- ---- a sum
 
 module _ (r : Refusal) (s count : ℕ) where
@@ -63,14 +51,6 @@ module _ (r : Refusal) (s count : ℕ) where
   pub sum-given : r .number ≡ 0 → sumAnswer r s count ≡ givenSum s count
   unfolding sumAnswer
   sum-given nothing = choice-true _ _ (eq-eqb (r .number) 0 nothing)
-
-  pub sum-noughts : (sumAnswer r s count .number ≡ 0 → ⊥) → SumNought (sumAnswer r s count)
-  unfolding sumAnswer
-  sum-noughts = by-number (eqb (r .number) 0)
-    where
-      by-number : (nothing : Bool) → (cond nothing (givenSum s count) (noSum r) .number ≡ 0 → ⊥) → SumNought (cond nothing (givenSum s count) (noSum r))
-      by-number true some = absurd (some refl)
-      by-number false some = (refl, refl, refl)
 
 -- a total in two halves with its count
 abbrev pub withCount : ℕ → Wide → SumAnswer
@@ -89,10 +69,6 @@ module _ (m : ℕ) (xs : List ℤ) where
   unfolding allanSumAnswer
   allan-sum-given sound = sum-given _ _ _ (ap (λ (r : Refusal). r .number) (sound-none allanDemand m xs sound))
 
-  pub allan-sum-noughts : (allanSumAnswer m xs .number ≡ 0 → ⊥) → SumNought (allanSumAnswer m xs)
-  unfolding allanSumAnswer
-  allan-sum-noughts some = sum-noughts _ _ _ some
-
   pub modified-sum-refused : (recordRefusal modifiedDemand m xs .number ≡ 0 → ⊥) → modifiedSumAnswer m xs ≡ noSum (recordRefusal modifiedDemand m xs)
   unfolding modifiedSumAnswer
   modified-sum-refused some = sum-refused _ _ _ some
@@ -100,10 +76,6 @@ module _ (m : ℕ) (xs : List ℤ) where
   pub modified-sum-given : Sound modifiedDemand m xs → modifiedSumAnswer m xs ≡ givenSum (modifiedSum m xs) (modifiedCount m xs)
   unfolding modifiedSumAnswer
   modified-sum-given sound = sum-given _ _ _ (ap (λ (r : Refusal). r .number) (sound-none modifiedDemand m xs sound))
-
-  pub modified-sum-noughts : (modifiedSumAnswer m xs .number ≡ 0 → ⊥) → SumNought (modifiedSumAnswer m xs)
-  unfolding modifiedSumAnswer
-  modified-sum-noughts some = sum-noughts _ _ _ some
 
 -- ---- a fraction
 
@@ -115,14 +87,6 @@ module _ (r : Refusal) (f : Fraction) where
   pub fraction-given : r .number ≡ 0 → fractionAnswer r f ≡ givenFraction f
   unfolding fractionAnswer
   fraction-given nothing = choice-true _ _ (eq-eqb (r .number) 0 nothing)
-
-  pub fraction-noughts : (fractionAnswer r f .number ≡ 0 → ⊥) → FractionNought (fractionAnswer r f)
-  unfolding fractionAnswer
-  fraction-noughts = by-number (eqb (r .number) 0)
-    where
-      by-number : (nothing : Bool) → (cond nothing (givenFraction f) (noFraction r) .number ≡ 0 → ⊥) → FractionNought (cond nothing (givenFraction f) (noFraction r))
-      by-number true some = absurd (some refl)
-      by-number false some = (refl, refl, refl)
 
 module _ (s m count : ℕ) where
   -- where nothing is refused
@@ -137,10 +101,6 @@ module _ (s m count : ℕ) where
   unfolding allanFractionAnswer
   allan-fraction-given allowed = fraction-given _ _ (no-number allowed)
 
-  pub allan-fraction-noughts : (allanFractionAnswer s m count .number ≡ 0 → ⊥) → FractionNought (allanFractionAnswer s m count)
-  unfolding allanFractionAnswer
-  allan-fraction-noughts some = fraction-noughts _ _ some
-
   pub time-fraction-refused : (figureRefusal s m count .number ≡ 0 → ⊥) → timeFractionAnswer s m count ≡ noFraction (figureRefusal s m count)
   unfolding timeFractionAnswer
   time-fraction-refused some = fraction-refused _ _ some
@@ -148,10 +108,6 @@ module _ (s m count : ℕ) where
   pub time-fraction-given : Allowed s m count → timeFractionAnswer s m count ≡ givenFraction (lowestTerms s (timeDenominator m count))
   unfolding timeFractionAnswer
   time-fraction-given allowed = fraction-given _ _ (no-number allowed)
-
-  pub time-fraction-noughts : (timeFractionAnswer s m count .number ≡ 0 → ⊥) → FractionNought (timeFractionAnswer s m count)
-  unfolding timeFractionAnswer
-  time-fraction-noughts some = fraction-noughts _ _ some
 
 -- ---- a deviation
 
@@ -163,14 +119,6 @@ module _ (refusal : Refusal) (r : ℕ) where
   pub deviation-given : refusal .number ≡ 0 → deviationAnswer refusal r ≡ givenDeviation r
   unfolding deviationAnswer
   deviation-given nothing = choice-true _ _ (eq-eqb (refusal .number) 0 nothing)
-
-  pub deviation-noughts : (deviationAnswer refusal r .number ≡ 0 → ⊥) → DeviationNought (deviationAnswer refusal r)
-  unfolding deviationAnswer
-  deviation-noughts = by-number (eqb (refusal .number) 0)
-    where
-      by-number : (nothing : Bool) → (cond nothing (givenDeviation r) (noDeviation refusal) .number ≡ 0 → ⊥) → DeviationNought (cond nothing (givenDeviation r) (noDeviation refusal))
-      by-number true some = absurd (some refl)
-      by-number false some = refl
 
 -- 3 where it would be above 2^62
 module _ (r : ℕ) where
@@ -213,10 +161,6 @@ module _ (s m count : ℕ) where
   pub allan-deviation-given : Allowed s m count → allanDeviation ≤ 2 ^ 62 → allanDeviationAnswer s m count ≡ givenDeviation allanDeviation
   allan-deviation-given allowed most = allan-deviation-by-size allowed ∙ not-above-given allanDeviation most
 
-  pub allan-deviation-noughts : (allanDeviationAnswer s m count .number ≡ 0 → ⊥) → DeviationNought (allanDeviationAnswer s m count)
-  unfolding allanDeviationAnswer
-  allan-deviation-noughts some = deviation-noughts _ _ some
-
   pub time-deviation-refused : (figureRefusal s m count .number ≡ 0 → ⊥) → timeDeviationAnswer s m count ≡ noDeviation (figureRefusal s m count)
   unfolding timeDeviationAnswer
   time-deviation-refused some = figure-refused s m count timeDeviation some
@@ -230,7 +174,3 @@ module _ (s m count : ℕ) where
 
   pub time-deviation-given : Allowed s m count → timeDeviation ≤ 2 ^ 62 → timeDeviationAnswer s m count ≡ givenDeviation timeDeviation
   time-deviation-given allowed most = time-deviation-by-size allowed ∙ not-above-given timeDeviation most
-
-  pub time-deviation-noughts : (timeDeviationAnswer s m count .number ≡ 0 → ⊥) → DeviationNought (timeDeviationAnswer s m count)
-  unfolding timeDeviationAnswer
-  time-deviation-noughts some = deviation-noughts _ _ some
