@@ -3,7 +3,6 @@
 -- meter are as they came (NAME-settled); the entries of a buffer past the output are never changed, refused or not (NAME-past). Single and Always
 -- stand in crates/laws/proofs/Single.antt, the noughts in specs/Noughts.antt. No public function has a `requires`, and none is an exception.
 use mathlib.Core.Path.{_≡_, refl, sym, ap, _∙_}
-use mathlib.Core.List.{List}
 use Prim.Native.Nat.{ℕ, _*_, _%_, _≤_}
 use borrow.Fn.Kinds.{endedOf}
 use denote.Ref.{now}
@@ -21,14 +20,10 @@ use Rattle.readings.proofs.Unique.{float-sums-single}
 use Rattle.phr.proofs.Unique.{read-file-single, write-file-single}
 use Rattle.plot.proofs.Unique.{drawn-number-single, allan-dot-single, time-dot-single}
 use Rattle.ploegelster.proofs.Unique.{plg-allan-dot-single, plg-time-dot-single}
-use Rattle.frequency.specs.Frequency.{phaseRefusal, phases, frequencyRefusal, differences}
 use Rattle.frequency.proofs.FrequencyLaws.{phases-length, differences-length}
 use Rattle.sums.specs.Answers.{allanSumAnswer, modifiedSumAnswer}
-use Rattle.drift.specs.Drift.{removalRefusal, withoutDrift}
 use Rattle.drift.proofs.DriftLaws.{without-drift-length}
 use Rattle.meter.specs.Answers.{startAnswer, sampleAnswer}
-use Rattle.readings.specs.Readings.{samplesOf}
-use Rattle.phr.specs.File.{fileOf}
 use Rattle.phr.proofs.RoundTrip.{file-length}
 use Rattle.plot.specs.Dots.{allanDotAnswer, timeDotAnswer}
 use Rattle.plot.specs.declared.dots.DotAnswer.{DotAnswer}
@@ -217,20 +212,20 @@ refused-count-one-answer = refused-count-single
 -- ---- frequency
 
 pub phase-from-frequency-settled : Settled 2 phase-from-frequency-kinds.ps phase-from-frequency-kinds.r phase-from-frequency.Post
-    (λ κs args z w. Refused (z .number) → CountNought z × (w .1 .0 ≡ now (args .1 .0)))
+    (λ κs args z w. let buffer = now (args .1 .0) in let left = w .1 .0 in Refused (z .number) → CountNought z × (left ≡ buffer))
 phase-from-frequency-settled = (phase-from-frequency-single, λ κs args z w is. rw (is .0, is .1) (count-noughts _ _ _ _))
 
 -- the answer's count is the length of the output, nought where the call is refused
 pub phase-from-frequency-past : Always 2 phase-from-frequency-kinds.ps phase-from-frequency-kinds.r phase-from-frequency.Post
-    (λ κs args z w. (i : ℕ) (e : ℤ) → z .count ≤ i → getD (w .1 .0) i e ≡ getD (now (args .1 .0)) i e)
+    (λ κs args z w. let buffer = now (args .1 .0) in let left = w .1 .0 in (i : ℕ) (e : ℤ) → z .count ≤ i → getD left i e ≡ getD buffer i e)
 phase-from-frequency-past κs args z w is = rw (is .0, is .1) (past-the-count _ _ _ _ (phases-length _))
 
 pub frequency-from-phase-settled : Settled 2 frequency-from-phase-kinds.ps frequency-from-phase-kinds.r frequency-from-phase.Post
-    (λ κs args z w. Refused (z .number) → CountNought z × (w .1 .0 ≡ now (args .1 .0)))
+    (λ κs args z w. let buffer = now (args .1 .0) in let left = w .1 .0 in Refused (z .number) → CountNought z × (left ≡ buffer))
 frequency-from-phase-settled = (frequency-from-phase-single, λ κs args z w is. rw (is .0, is .1) (count-noughts _ _ _ _))
 
 pub frequency-from-phase-past : Always 2 frequency-from-phase-kinds.ps frequency-from-phase-kinds.r frequency-from-phase.Post
-    (λ κs args z w. (i : ℕ) (e : ℤ) → z .count ≤ i → getD (w .1 .0) i e ≡ getD (now (args .1 .0)) i e)
+    (λ κs args z w. let buffer = now (args .1 .0) in let left = w .1 .0 in (i : ℕ) (e : ℤ) → z .count ≤ i → getD left i e ≡ getD buffer i e)
 frequency-from-phase-past κs args z w is = rw (is .0, is .1) (past-the-count _ _ _ _ (differences-length _))
 
 -- ---- sums
@@ -252,61 +247,68 @@ pub drift-figure-settled : Settled 1 drift-figure-kinds.ps drift-figure-kinds.r 
 drift-figure-settled = (drift-figure-single, λ κs args z w is. rw is (drift-noughts _))
 
 pub remove-drift-settled : Settled 2 remove-drift-kinds.ps remove-drift-kinds.r remove-drift.Post
-    (λ κs args z w. Refused (z .number) → CountNought z × (w .1 .0 ≡ now (args .1 .0)))
+    (λ κs args z w. let buffer = now (args .1 .0) in let left = w .1 .0 in Refused (z .number) → CountNought z × (left ≡ buffer))
 remove-drift-settled = (remove-drift-single, λ κs args z w is. rw (is .0, is .1) (count-noughts _ _ _ _))
 
 pub remove-drift-past : Always 2 remove-drift-kinds.ps remove-drift-kinds.r remove-drift.Post
-    (λ κs args z w. (i : ℕ) (e : ℤ) → z .count ≤ i → getD (w .1 .0) i e ≡ getD (now (args .1 .0)) i e)
+    (λ κs args z w. let buffer = now (args .1 .0) in let left = w .1 .0 in (i : ℕ) (e : ℤ) → z .count ≤ i → getD left i e ≡ getD buffer i e)
 remove-drift-past κs args z w is = rw (is .0, is .1) (past-the-count _ _ _ _ (without-drift-length _))
 
 -- ---- meter: a ring that is lent for a start is read alone
 
 pub meter-start-settled : Settled 1 meter-start-kinds.ps meter-start-kinds.r meter-start.Post
-    (λ κs args z w. Refused (z .number) → z .meter ≡ args .0)
+    (λ κs args z w. let old = args .0 in Refused (z .number) → z .meter ≡ old)
 unfolding startAnswer
 meter-start-settled = (start-single, λ κs args z w is. rw is (meter-as-it-came _ _ _))
 
 pub meter-sample-settled : Settled 1 meter-sample-kinds.ps meter-sample-kinds.r meter-sample.Post
-    (λ κs args z w. Refused (z .number) → (z .meter ≡ args .0) × (w .1 .0 ≡ now (args .1 .0)))
+    (λ κs args z w. let x = args .0 in let ring = now (args .1 .0) in let left = w .1 .0 in Refused (z .number) → (z .meter ≡ x) × (left ≡ ring))
 unfolding sampleAnswer
 meter-sample-settled = (sample-single, λ κs args z w is. rw (is .0, is .1) (λ some. (meter-as-it-came _ _ _ some, ring-as-it-came _ _ _ some)))
 
 -- a sample call changes no slot of the ring but its own, n mod 3m
 pub meter-sample-past : Always 1 meter-sample-kinds.ps meter-sample-kinds.r meter-sample.Post
-    (λ κs args z w. (i : ℕ) (e : ℤ) → (i ≡ args .0 .n % (3 * args .0 .m) → ⊥) → getD (w .1 .0) i e ≡ getD (now (args .1 .0)) i e)
+    (λ κs args z w. let x = args .0 in let ring = now (args .1 .0) in let left = w .1 .0 in
+    (i : ℕ) (e : ℤ) → (i ≡ x .n % (3 * x .m) → ⊥) → getD left i e ≡ getD ring i e)
 meter-sample-past κs args z w is = rw (is .1) (other-slots-unchanged _ _ _)
 
 -- a 1 for one part is no refusal of the call: the values of that part are noughts
 pub meter-report-settled : Settled 0 meter-report-kinds.ps meter-report-kinds.r meter-report.Post
-    (λ κs args z w. (Refused (z .number) → ReportNought z) × (Refused (z .allan .number) → PartValuesNought (z .allan)) × (Refused (z .modified .number) → PartValuesNought (z .modified)))
+    (λ κs args z w. (Refused (z .number) → ReportNought z)
+    × (Refused (z .allan .number) → PartValuesNought (z .allan))
+    × (Refused (z .modified .number) → PartValuesNought (z .modified)))
 meter-report-settled = (report-single, λ κs args z w is. rw is (report-noughts _, report-part-noughts _ .0, report-part-noughts _ .1))
 
 -- ---- readings
 
 pub float-sums-settled : Settled 2 float-sums-kinds.ps float-sums-kinds.r float-sums.Post
-    (λ κs args z w. (Refused (z .number) → FloatNought z × (w .1 .1 .0 ≡ now (args .1 .1 .0))) × (Refused (z .allan .number) → PartValuesNought (z .allan)) × (Refused (z .modified .number) → PartValuesNought (z .modified)))
+    (λ κs args z w. let buffer = now (args .1 .1 .0) in let left = w .1 .1 .0 in
+    (Refused (z .number) → FloatNought z × (left ≡ buffer))
+    × (Refused (z .allan .number) → PartValuesNought (z .allan))
+    × (Refused (z .modified .number) → PartValuesNought (z .modified)))
 float-sums-settled = (float-sums-single, λ κs args z w is. let parts = float-part-noughts (args .1 .0) (now (args .0)) (now (args .1 .1 .0)) in rw (is .0, is .1) (float-noughts _ _ _, parts .0, parts .1))
 
 pub float-sums-past : Always 2 float-sums-kinds.ps float-sums-kinds.r float-sums.Post
-    (λ κs args z w. (i : ℕ) (e : ℤ) → length (now (args .0)) ≤ i → getD (w .1 .1 .0) i e ≡ getD (now (args .1 .1 .0)) i e)
+    (λ κs args z w. let xs = now (args .0) in let buffer = now (args .1 .1 .0) in let left = w .1 .1 .0 in
+    (i : ℕ) (e : ℤ) → length xs ≤ i → getD left i e ≡ getD buffer i e)
 float-sums-past κs args z w is = rw (is .1) (past-the-samples (args .1 .0) (now (args .0)) (now (args .1 .1 .0)))
 
 -- ---- phr
 
 pub read-file-settled : Settled 2 read-file-kinds.ps read-file-kinds.r read-file.Post
-    (λ κs args z w. Refused (z .number) → ReadNought z × (w .1 .0 ≡ now (args .1 .0)))
+    (λ κs args z w. let buffer = now (args .1 .0) in let left = w .1 .0 in Refused (z .number) → ReadNought z × (left ≡ buffer))
 read-file-settled = (read-file-single, λ κs args z w is. rw (is .0, is .1) (read-noughts _ _))
 
 pub read-file-past : Always 2 read-file-kinds.ps read-file-kinds.r read-file.Post
-    (λ κs args z w. (i : ℕ) (e : ℤ) → z .count ≤ i → getD (w .1 .0) i e ≡ getD (now (args .1 .0)) i e)
+    (λ κs args z w. let buffer = now (args .1 .0) in let left = w .1 .0 in (i : ℕ) (e : ℤ) → z .count ≤ i → getD left i e ≡ getD buffer i e)
 read-file-past κs args z w is = rw (is .0, is .1) (past-the-values (now (args .0)) (now (args .1 .0)))
 
 pub write-file-settled : Settled 2 write-file-kinds.ps write-file-kinds.r write-file.Post
-    (λ κs args z w. Refused (z .number) → CountNought z × (w .1 .1 .0 ≡ now (args .1 .1 .0)))
+    (λ κs args z w. let buffer = now (args .1 .1 .0) in let left = w .1 .1 .0 in Refused (z .number) → CountNought z × (left ≡ buffer))
 write-file-settled = (write-file-single, λ κs args z w is. rw (is .0, is .1) (count-noughts _ _ _ _))
 
 pub write-file-past : Always 2 write-file-kinds.ps write-file-kinds.r write-file.Post
-    (λ κs args z w. (i : ℕ) (e : ℕ) → z .count ≤ i → getD (w .1 .1 .0) i e ≡ getD (now (args .1 .1 .0)) i e)
+    (λ κs args z w. let buffer = now (args .1 .1 .0) in let left = w .1 .1 .0 in (i : ℕ) (e : ℕ) → z .count ≤ i → getD left i e ≡ getD buffer i e)
 write-file-past κs args z w is = rw (is .0, is .1) (past-the-count _ _ _ _ (file-length _ _))
 
 -- ---- plot: what is drawn
@@ -345,22 +347,22 @@ pub plg-phase-from-frequency-is : plg-phase-from-frequency.Post ≡ phase-from-f
 plg-phase-from-frequency-is = refl
 
 pub plg-phase-from-frequency-settled : Settled 2 plg-phase-from-frequency-kinds.ps plg-phase-from-frequency-kinds.r plg-phase-from-frequency.Post
-    (λ κs args z w. Refused (z .number) → CountNought z × (w .1 .0 ≡ now (args .1 .0)))
+    (λ κs args z w. let buffer = now (args .1 .0) in let left = w .1 .0 in Refused (z .number) → CountNought z × (left ≡ buffer))
 plg-phase-from-frequency-settled = phase-from-frequency-settled
 
 pub plg-phase-from-frequency-past : Always 2 plg-phase-from-frequency-kinds.ps plg-phase-from-frequency-kinds.r plg-phase-from-frequency.Post
-    (λ κs args z w. (i : ℕ) (e : ℤ) → z .count ≤ i → getD (w .1 .0) i e ≡ getD (now (args .1 .0)) i e)
+    (λ κs args z w. let buffer = now (args .1 .0) in let left = w .1 .0 in (i : ℕ) (e : ℤ) → z .count ≤ i → getD left i e ≡ getD buffer i e)
 plg-phase-from-frequency-past = phase-from-frequency-past
 
 pub plg-frequency-from-phase-is : plg-frequency-from-phase.Post ≡ frequency-from-phase.Post
 plg-frequency-from-phase-is = refl
 
 pub plg-frequency-from-phase-settled : Settled 2 plg-frequency-from-phase-kinds.ps plg-frequency-from-phase-kinds.r plg-frequency-from-phase.Post
-    (λ κs args z w. Refused (z .number) → CountNought z × (w .1 .0 ≡ now (args .1 .0)))
+    (λ κs args z w. let buffer = now (args .1 .0) in let left = w .1 .0 in Refused (z .number) → CountNought z × (left ≡ buffer))
 plg-frequency-from-phase-settled = frequency-from-phase-settled
 
 pub plg-frequency-from-phase-past : Always 2 plg-frequency-from-phase-kinds.ps plg-frequency-from-phase-kinds.r plg-frequency-from-phase.Post
-    (λ κs args z w. (i : ℕ) (e : ℤ) → z .count ≤ i → getD (w .1 .0) i e ≡ getD (now (args .1 .0)) i e)
+    (λ κs args z w. let buffer = now (args .1 .0) in let left = w .1 .0 in (i : ℕ) (e : ℤ) → z .count ≤ i → getD left i e ≡ getD buffer i e)
 plg-frequency-from-phase-past = frequency-from-phase-past
 
 pub plg-drift-figure-is : plg-drift-figure.Post ≡ drift-figure.Post
@@ -374,69 +376,76 @@ pub plg-remove-drift-is : plg-remove-drift.Post ≡ remove-drift.Post
 plg-remove-drift-is = refl
 
 pub plg-remove-drift-settled : Settled 2 plg-remove-drift-kinds.ps plg-remove-drift-kinds.r plg-remove-drift.Post
-    (λ κs args z w. Refused (z .number) → CountNought z × (w .1 .0 ≡ now (args .1 .0)))
+    (λ κs args z w. let buffer = now (args .1 .0) in let left = w .1 .0 in Refused (z .number) → CountNought z × (left ≡ buffer))
 plg-remove-drift-settled = remove-drift-settled
 
 pub plg-remove-drift-past : Always 2 plg-remove-drift-kinds.ps plg-remove-drift-kinds.r plg-remove-drift.Post
-    (λ κs args z w. (i : ℕ) (e : ℤ) → z .count ≤ i → getD (w .1 .0) i e ≡ getD (now (args .1 .0)) i e)
+    (λ κs args z w. let buffer = now (args .1 .0) in let left = w .1 .0 in (i : ℕ) (e : ℤ) → z .count ≤ i → getD left i e ≡ getD buffer i e)
 plg-remove-drift-past = remove-drift-past
 
 pub plg-float-sums-is : plg-float-sums.Post ≡ float-sums.Post
 plg-float-sums-is = refl
 
 pub plg-float-sums-settled : Settled 2 plg-float-sums-kinds.ps plg-float-sums-kinds.r plg-float-sums.Post
-    (λ κs args z w. (Refused (z .number) → FloatNought z × (w .1 .1 .0 ≡ now (args .1 .1 .0))) × (Refused (z .allan .number) → PartValuesNought (z .allan)) × (Refused (z .modified .number) → PartValuesNought (z .modified)))
+    (λ κs args z w. let buffer = now (args .1 .1 .0) in let left = w .1 .1 .0 in
+    (Refused (z .number) → FloatNought z × (left ≡ buffer))
+    × (Refused (z .allan .number) → PartValuesNought (z .allan))
+    × (Refused (z .modified .number) → PartValuesNought (z .modified)))
 plg-float-sums-settled = float-sums-settled
 
 pub plg-float-sums-past : Always 2 plg-float-sums-kinds.ps plg-float-sums-kinds.r plg-float-sums.Post
-    (λ κs args z w. (i : ℕ) (e : ℤ) → length (now (args .0)) ≤ i → getD (w .1 .1 .0) i e ≡ getD (now (args .1 .1 .0)) i e)
+    (λ κs args z w. let xs = now (args .0) in let buffer = now (args .1 .1 .0) in let left = w .1 .1 .0 in
+    (i : ℕ) (e : ℤ) → length xs ≤ i → getD left i e ≡ getD buffer i e)
 plg-float-sums-past = float-sums-past
 
 pub plg-meter-start-is : plg-meter-start.Post ≡ meter-start.Post
 plg-meter-start-is = refl
 
 pub plg-meter-start-settled : Settled 1 plg-meter-start-kinds.ps plg-meter-start-kinds.r plg-meter-start.Post
-    (λ κs args z w. Refused (z .number) → z .meter ≡ args .0)
+    (λ κs args z w. let old = args .0 in Refused (z .number) → z .meter ≡ old)
 plg-meter-start-settled = meter-start-settled
 
 pub plg-meter-sample-is : plg-meter-sample.Post ≡ meter-sample.Post
 plg-meter-sample-is = refl
 
 pub plg-meter-sample-settled : Settled 1 plg-meter-sample-kinds.ps plg-meter-sample-kinds.r plg-meter-sample.Post
-    (λ κs args z w. Refused (z .number) → (z .meter ≡ args .0) × (w .1 .0 ≡ now (args .1 .0)))
+    (λ κs args z w. let x = args .0 in let ring = now (args .1 .0) in let left = w .1 .0 in Refused (z .number) → (z .meter ≡ x) × (left ≡ ring))
 plg-meter-sample-settled = meter-sample-settled
 
 pub plg-meter-sample-past : Always 1 plg-meter-sample-kinds.ps plg-meter-sample-kinds.r plg-meter-sample.Post
-    (λ κs args z w. (i : ℕ) (e : ℤ) → (i ≡ args .0 .n % (3 * args .0 .m) → ⊥) → getD (w .1 .0) i e ≡ getD (now (args .1 .0)) i e)
+    (λ κs args z w. let x = args .0 in let ring = now (args .1 .0) in let left = w .1 .0 in
+    (i : ℕ) (e : ℤ) → (i ≡ x .n % (3 * x .m) → ⊥) → getD left i e ≡ getD ring i e)
 plg-meter-sample-past = meter-sample-past
 
 pub plg-meter-report-is : plg-meter-report.Post ≡ meter-report.Post
 plg-meter-report-is = refl
 
 pub plg-meter-report-settled : Settled 0 plg-meter-report-kinds.ps plg-meter-report-kinds.r plg-meter-report.Post
-    (λ κs args z w. (Refused (z .number) → ReportNought z) × (Refused (z .allan .number) → PartValuesNought (z .allan)) × (Refused (z .modified .number) → PartValuesNought (z .modified)))
+    (λ κs args z w. (Refused (z .number) → ReportNought z)
+    × (Refused (z .allan .number) → PartValuesNought (z .allan))
+    × (Refused (z .modified .number) → PartValuesNought (z .modified)))
 plg-meter-report-settled = meter-report-settled
 
 pub plg-read-file-is : plg-read-file.Post ≡ read-file.Post
 plg-read-file-is = refl
 
 pub plg-read-file-settled : Settled 2 plg-read-file-kinds.ps plg-read-file-kinds.r plg-read-file.Post
-    (λ κs args z w. Refused (z .number) → ReadNought z × (w .1 .0 ≡ now (args .1 .0)))
+    (λ κs args z w. let buffer = now (args .1 .0) in let left = w .1 .0 in Refused (z .number) → ReadNought z × (left ≡ buffer))
 plg-read-file-settled = read-file-settled
 
 pub plg-read-file-past : Always 2 plg-read-file-kinds.ps plg-read-file-kinds.r plg-read-file.Post
-    (λ κs args z w. (i : ℕ) (e : ℤ) → z .count ≤ i → getD (w .1 .0) i e ≡ getD (now (args .1 .0)) i e)
+    (λ κs args z w. let buffer = now (args .1 .0) in let left = w .1 .0 in (i : ℕ) (e : ℤ) → z .count ≤ i → getD left i e ≡ getD buffer i e)
 plg-read-file-past = read-file-past
 
 pub plg-write-file-is : plg-write-file.Post ≡ write-file.Post
 plg-write-file-is = refl
 
 pub plg-write-file-settled : Settled 2 plg-write-file-kinds.ps plg-write-file-kinds.r plg-write-file.Post
-    (λ κs args z w. Refused (z .number) → CountNought z × (w .1 .1 .0 ≡ now (args .1 .1 .0)))
+    (λ κs args z w. let buffer = now (args .1 .1 .0) in let left = w .1 .1 .0 in Refused (z .number) → CountNought z × (left ≡ buffer))
 plg-write-file-settled = write-file-settled
 
 pub plg-write-file-past : Always 2 plg-write-file-kinds.ps plg-write-file-kinds.r plg-write-file.Post
-    (λ κs args z w. (i : ℕ) (e : ℕ) → z .count ≤ i → getD (w .1 .1 .0) i e ≡ getD (now (args .1 .1 .0)) i e)
+    (λ κs args z w. let buffer = now (args .1 .1 .0) in let left = w .1 .1 .0 in (i : ℕ) (e : ℕ) → z .count ≤ i → getD left i e ≡ getD buffer i e)
 plg-write-file-past = write-file-past
 
 pub plg-drawn-number-is : plg-drawn-number.Post ≡ drawn-number.Post

@@ -1,3 +1,5 @@
 pub mod Figures
 pub mod NoughtLaws
+pub mod PromiseLaws
 pub mod Condition1
+pub mod Condition2

@@ -1,5 +1,5 @@
 -- Beside a refusal every other value of an answer is nought, and a lent buffer is as it came; the entries past an output are never changed.
-use mathlib.Core.Path.{_≡_, refl, ap, _∙_}
+use mathlib.Core.Path.{_≡_, refl}
 use mathlib.Core.Bool.{Bool, true, false, cond}
 use mathlib.Core.List.{List}
 use Prim.Native.Nat.{ℕ, zero, suc, _≤_, _+_, _-_, _*_, _%_}
@@ -19,10 +19,7 @@ use Rattle.record.specs.declared.CountAnswer.{CountAnswer}
 use Rattle.record.proofs.AnswerLaws.{past-unchanged}
 use Rattle.sums.specs.Published.{allanSum, allanCount, modifiedSum, modifiedCount}
 use Rattle.sums.specs.Answers.{sumAnswer, partOf, noPart}
-use Rattle.sums.specs.declared.SumAnswer.{SumAnswer}
-use Rattle.sums.specs.declared.Part.{Part}
 use Rattle.drift.specs.Drift.{driftRefusal, driftAnswer}
-use Rattle.drift.specs.declared.DriftAnswer.{DriftAnswer}
 use Rattle.readings.specs.Readings.{samplesOf}
 use Rattle.readings.proofs.RefusalLaws.{samples-length}
 use Rattle.readings.specs.Answers.{floatRefusal, floatAnswer, floatBuffer}
@@ -30,15 +27,12 @@ use Rattle.readings.specs.declared.FloatSums.{FloatSums}
 use Rattle.meter.specs.Meter.{holdsTogether, ringWith}
 use Rattle.meter.specs.Answers.{meterAnswer, sampleRefusal, sampleAnswer, ringLeft, reportAnswer}
 use Rattle.meter.specs.declared.Meter.{Meter}
-use Rattle.meter.specs.declared.MeterAnswer.{MeterAnswer}
 use Rattle.meter.specs.declared.Report.{Report}
 use Rattle.phr.specs.Reading.{readRefusal, readAnswer, readBuffer, kindOf, valuesOf, countOf}
 use Rattle.phr.proofs.ReadCases.{values-of-length}
 use Rattle.phr.specs.declared.ReadAnswer.{ReadAnswer}
 use Rattle.plot.specs.Drawn.{drawnRefusal, drawnAnswer}
 use Rattle.plot.specs.Dots.{dotValue, dotAnswer}
-use Rattle.plot.specs.declared.drawn.DrawnAnswer.{DrawnAnswer}
-use Rattle.plot.specs.declared.dots.DotAnswer.{DotAnswer}
 use Rattle.ploegelster.specs.Boundary.{dotKind, toldDot}
 use Rattle.sums.specs.declared.DeviationAnswer.{DeviationAnswer}
 use Rattle.acceptance.specs.Noughts.{Refused, CountNought, ReadNought, SumNought, PartValuesNought, FloatNought, ReportNought, DriftNought, DrawnNought, DotNought, ToldDotNought}
