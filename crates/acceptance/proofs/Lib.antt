@@ -3,3 +3,4 @@ pub mod NoughtLaws
 pub mod PromiseLaws
 pub mod Condition1
 pub mod Condition2
+pub mod Condition3

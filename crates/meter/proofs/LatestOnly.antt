@@ -23,7 +23,7 @@ use Rattle.meter.specs.declared.MeterAnswer.{MeterAnswer}
 use Rattle.meter.proofs.Stream.{slots-apart, keeps-on}
 use Rattle.meter.proofs.Running.{choice-by-order, meterAfter, Running}
 use Rattle.meter.proofs.Trace.{Samples, sample-answers, Trace}
-use Rattle.meter.proofs.Condition3.{trace-runs}
+use Rattle.meter.proofs.AnyCalls.{trace-runs}
 
 -- two choices by one order
 choices-agree : {A : Type 0} (a b : ℕ) {p p′ q q′ : A} → (a ≤ b → p ≡ p′) → (b < a → q ≡ q′) → cond (leb a b) p q ≡ cond (leb a b) p′ q′
