@@ -120,7 +120,7 @@ use Rattle.ploegelster.proofs.drawing.plg_allan_dot.Reads as plg-allan-dot
 use Rattle.ploegelster.proofs.drawing.plg_allan_dot.Kinds as plg-allan-dot-kinds
 use Rattle.ploegelster.proofs.drawing.plg_time_dot.Reads as plg-time-dot
 use Rattle.ploegelster.proofs.drawing.plg_time_dot.Kinds as plg-time-dot-kinds
--- variances: fractions and deviations
+-- fractions and deviations
 use Rattle.sums.proofs.Unique.{allan-fraction-single, time-fraction-single, allan-deviation-single, time-deviation-single}
 use Rattle.sums.specs.Answers.{allanFractionAnswer, timeFractionAnswer, allanDeviationAnswer, timeDeviationAnswer}
 use Rattle.sums.proofs.allan_fraction.Reads as allan-fraction
@@ -192,7 +192,7 @@ wide-root-one-answer = root-single
 pub wide-square-at-most-one-answer : Single 0 wide-square-at-most-kinds.ps wide-square-at-most-kinds.r wide-square-at-most.Post
 wide-square-at-most-one-answer = square-at-most-single
 
--- ---- record: the checks; a refusal is all that they answer
+-- ---- record: the checks; what they answer is a test, a refusal, or a refusal beside nought
 
 pub in-range-one-answer : Single 0 in-range-kinds.ps in-range-kinds.r in-range.Post
 in-range-one-answer = in-range-single
@@ -286,7 +286,12 @@ pub float-sums-settled : Settled 2 float-sums-kinds.ps float-sums-kinds.r float-
     (Refused (z .number) → FloatNought z × (left ≡ buffer))
     × (Refused (z .allan .number) → PartValuesNought (z .allan))
     × (Refused (z .modified .number) → PartValuesNought (z .modified)))
-float-sums-settled = (float-sums-single, λ κs args z w is. let parts = float-part-noughts (args .1 .0) (now (args .0)) (now (args .1 .1 .0)) in rw (is .0, is .1) (float-noughts _ _ _, parts .0, parts .1))
+float-sums-settled = (
+  float-sums-single,
+  λ κs args z w is.
+      let parts = float-part-noughts (args .1 .0) (now (args .0)) (now (args .1 .1 .0)) in
+      rw (is .0, is .1) (float-noughts _ _ _, parts .0, parts .1),
+)
 
 pub float-sums-past : Always 2 float-sums-kinds.ps float-sums-kinds.r float-sums.Post
     (λ κs args z w. let xs = now (args .0) in let buffer = now (args .1 .1 .0) in let left = w .1 .1 .0 in

@@ -25,6 +25,8 @@ use Rattle.phr.specs.File.{fileOf}
 use Rattle.phr.proofs.ByteLaws.{AreBytes}
 use Rattle.phr.proofs.WriteCases.{Writable}
 use Rattle.phr.proofs.RoundTrip.{IsFile}
+use Rattle.plot.specs.Drawn.{plusZero}
+use Rattle.plot.specs.Dots.{dotNumber, dotValue}
 use Rattle.plot.proofs.DotLaws.{allan-too-few, time-too-few}
 use Rattle.plot.specs.declared.dots.Dot.the-variants.{TooFew}
 use Rattle.acceptance.specs.Figures.{squares}
@@ -54,7 +56,7 @@ use Rattle.plot.proofs.dots.allan_dot.Reads as allan-dot
 use Rattle.plot.proofs.dots.allan_dot.Kinds as allan-dot-kinds
 use Rattle.plot.proofs.dots.time_dot.Reads as time-dot
 use Rattle.plot.proofs.dots.time_dot.Kinds as time-dot-kinds
--- variances: fractions and deviations
+-- fractions and deviations
 use Rattle.sums.specs.Published.{allanDenominator}
 use Rattle.sums.specs.Fractions.{euclid, gcd, lowestTerms}
 use Rattle.sums.specs.Deviations.{within}
@@ -194,14 +196,18 @@ pub time-dot-published : Always 0 time-dot-kinds.ps time-dot-kinds.r time-dot.Po
     (λ κs args z w. let B = value (args .0) in let m = args .1 .0 in let C = args .1 .1 .0 in Allowed B m C → DotOf B (6 * (m * m) * C) z)
 time-dot-published κs args z w is allowed = rw is (time-dot-of _ _ _ allowed)
 
--- A count of 0 gives too few.
+-- A count of 0 gives too few, whose number is 1.
 pub allan-dot-too-few : Always 0 allan-dot-kinds.ps allan-dot-kinds.r allan-dot.Post
-    (λ κs args z w. let m = args .1 .0 in let K = args .1 .1 .0 in 1 ≤ m → m ≤ 10922 → K ≡ 0 → (z .number ≡ 0) × (z .dot ≡ TooFew))
-allan-dot-too-few κs args z w is least most none = rw (is, none) (rw (allan-too-few _ _ least most) (refl, refl))
+    (λ κs args z w. let m = args .1 .0 in let K = args .1 .1 .0 in 1 ≤ m → m ≤ 10922 → K ≡ 0 →
+    (z .number ≡ 0) × (z .dot ≡ TooFew) × (dotNumber (z .dot) ≡ 1) × (dotValue (z .dot) ≡ plusZero))
+unfolding dotNumber dotValue
+allan-dot-too-few κs args z w is least most none = rw (is, none) (rw (allan-too-few _ _ least most) (refl, refl, refl, refl))
 
 pub time-dot-too-few : Always 0 time-dot-kinds.ps time-dot-kinds.r time-dot.Post
-    (λ κs args z w. let m = args .1 .0 in let C = args .1 .1 .0 in 1 ≤ m → m ≤ 10922 → C ≡ 0 → (z .number ≡ 0) × (z .dot ≡ TooFew))
-time-dot-too-few κs args z w is least most none = rw (is, none) (rw (time-too-few _ _ least most) (refl, refl))
+    (λ κs args z w. let m = args .1 .0 in let C = args .1 .1 .0 in 1 ≤ m → m ≤ 10922 → C ≡ 0 →
+    (z .number ≡ 0) × (z .dot ≡ TooFew) × (dotNumber (z .dot) ≡ 1) × (dotValue (z .dot) ≡ plusZero))
+unfolding dotNumber dotValue
+time-dot-too-few κs args z w is least most none = rw (is, none) (rw (time-too-few _ _ least most) (refl, refl, refl, refl))
 
 -- ---- fractions and deviations, by the sum, the factor m and the count
 

@@ -32,7 +32,7 @@ use Rattle.phr.specs.Reading.{readRefusal, readAnswer, readBuffer, kindOf, valu
 use Rattle.phr.proofs.ReadCases.{values-of-length}
 use Rattle.phr.specs.declared.ReadAnswer.{ReadAnswer}
 use Rattle.plot.specs.Drawn.{drawnRefusal, drawnAnswer}
-use Rattle.plot.specs.Dots.{dotValue, dotAnswer}
+use Rattle.plot.specs.Dots.{dotNumber, dotValue, dotAnswer}
 use Rattle.ploegelster.specs.Boundary.{dotKind, toldDot}
 use Rattle.sums.specs.declared.DeviationAnswer.{DeviationAnswer}
 use Rattle.acceptance.specs.Noughts.{Refused, CountNought, ReadNought, SumNought, PartValuesNought, FloatNought, ReportNought, DriftNought, DrawnNought, DotNought, ToldDotNought}
@@ -194,13 +194,13 @@ unfolding drawnAnswer
 drawn-noughts r some = rw (by-refusal (drawnRefusal r) (λ nothing. rw nothing) some) refl
 
 pub dot-noughts : (d : DeviationAnswer) → Refused (dotAnswer d .number) → DotNought (dotAnswer d)
-unfolding dotAnswer
-dot-noughts d some = rw (ne-eqb (d .number) 0 (λ nothing. some (rw nothing)), ne-eqb (d .number) 1 (λ few. some (rw few))) refl
+unfolding dotAnswer dotNumber dotValue
+dot-noughts d some = rw (ne-eqb (d .number) 0 (λ nothing. some (rw nothing)), ne-eqb (d .number) 1 (λ few. some (rw few))) (refl, refl, refl)
 
 -- as C has it
 pub told-dot-noughts : (d : DeviationAnswer) → Refused (toldDot (dotAnswer d) .number) → ToldDotNought (toldDot (dotAnswer d))
 unfolding toldDot dotKind dotValue
-told-dot-noughts d some = rw (dot-noughts d some) (refl, refl)
+told-dot-noughts d some = rw (dot-noughts d some .0) (refl, refl)
 
 -- ---- fractions and deviations
 

@@ -45,10 +45,9 @@ use Rattle.phr.proofs.ByteLaws.{AreBytes}
 use Rattle.phr.proofs.ReadCases.{readable-none, unrefused-readable}
 use Rattle.phr.proofs.WriteCases.{Writable, writable-none}
 use Rattle.phr.proofs.RoundTrip.{Proper, IsFile, accepted-exactly, buffer-has-file, file-is-read, file-answer, values-come-back}
-use Rattle.plot.specs.Drawn.{drawnNumber, drawnAnswer}
-use Rattle.plot.specs.Dots.{dotAnswer, allanDotAnswer, timeDotAnswer}
+use Rattle.plot.specs.Drawn.{drawnAnswer}
+use Rattle.plot.specs.Dots.{dotNumber, dotValue, dotAnswer, allanDotAnswer, timeDotAnswer}
 use Rattle.plot.specs.declared.drawn.DrawnAnswer.{DrawnAnswer}
-use Rattle.plot.specs.declared.dots.Dot.the-variants.{Drawn}
 use Rattle.plot.specs.declared.dots.DotAnswer.{DotAnswer}
 use Rattle.plot.proofs.DrawnLaws as DrawnLaws
 use Rattle.plot.proofs.DrawnLaws.{drawn-is-greatest, drawn-given}
@@ -364,21 +363,14 @@ module _ (a d : ℕ) (some : 0 < d) where
     deviation-of = record { r = root; greatest = deviation-is-greatest a d some below; given = root-given; above = root-refused }
 
     dot-of : DotOf a d (dotAnswer dev)
+    unfolding dotNumber dotValue
     dot-of = record {
       r = root;
       greatest = deviation-is-greatest a d some below;
-      nought = λ e.
-          let known = root-given (omega arith) in
-          let dot = nought-dot dev (known .0) (known .1 ∙ e) in
-          (ap (λ (z : DotAnswer). z .number) dot, ap (λ (z : DotAnswer). z .dot) dot);
+      nought = λ e. let known = root-given (omega arith) in rw (nought-dot dev (known .0) (known .1 ∙ e)) (refl, refl, refl, refl);
       drawn = λ least most.
           let known = root-given most in
-          let dot = drawn-dot dev (known .0) (λ e. omega (arith, known .1)) in (
-            drawnNumber root,
-            ap (λ (z : DotAnswer). z .number) dot,
-            ap (λ (z : DotAnswer). z .dot) dot ∙ ap (λ (r : ℕ). Drawn (drawnNumber r)) (known .1),
-            drawn-is-greatest least (omega arith),
-          );
+          rw (drawn-dot dev (known .0) (λ e. omega (arith, known .1)), known .1) (refl, refl, refl, drawn-is-greatest least (omega arith));
       above = λ above.
           let three = root-refused above in
           ap (λ (z : DotAnswer). z .number) (refused-dot dev (λ e. omega arith) (λ e. omega arith)) ∙ three;

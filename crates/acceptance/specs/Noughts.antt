@@ -12,6 +12,7 @@ use Rattle.readings.specs.declared.FloatSums.{FloatSums}
 use Rattle.meter.specs.declared.Report.{Report}
 use Rattle.phr.specs.declared.ReadAnswer.{ReadAnswer}
 use Rattle.plot.specs.Drawn.{plusZero}
+use Rattle.plot.specs.Dots.{dotNumber, dotValue}
 use Rattle.plot.specs.declared.drawn.DrawnAnswer.{DrawnAnswer}
 use Rattle.plot.specs.declared.dots.Dot.the-variants.{Nought}
 use Rattle.plot.specs.declared.dots.DotAnswer.{DotAnswer}
@@ -63,8 +64,9 @@ DriftNought z = (z .p ≡ pos 0) × (z .r ≡ 0)
 abbrev pub DrawnNought : DrawnAnswer → Type 0
 DrawnNought z = z .value ≡ plusZero
 
+-- the dot is nought, and the paper's number and value of it are noughts
 abbrev pub DotNought : DotAnswer → Type 0
-DotNought z = z .dot ≡ Nought
+DotNought z = (z .dot ≡ Nought) × (dotNumber (z .dot) ≡ 0) × (dotValue (z .dot) ≡ plusZero)
 
 -- as C has it: a kind and a double
 abbrev pub ToldDotNought : ToldDot → Type 0

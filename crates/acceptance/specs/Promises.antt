@@ -23,6 +23,7 @@ use Rattle.readings.proofs.ReadingLaws.{Exactly}
 use Rattle.meter.specs.declared.Report.{Report}
 use Rattle.phr.specs.declared.ReadAnswer.{ReadAnswer}
 use Rattle.plot.specs.Drawn.{plusZero, GreatestDouble}
+use Rattle.plot.specs.Dots.{dotNumber, dotValue}
 use Rattle.plot.specs.declared.drawn.DrawnAnswer.{DrawnAnswer}
 use Rattle.plot.specs.declared.dots.Dot.the-variants.{Drawn, Nought}
 use Rattle.plot.specs.declared.dots.DotAnswer.{DotAnswer}
@@ -141,12 +142,12 @@ pub record DrawnOf (r : ℕ) (z : DrawnAnswer) : Type 0 where
   pub below : r < 1 → z .number ≡ 3
   pub above : 2 ^ 63 < r → z .number ≡ 3
 
--- the dot of the variance a / d: r is its deviation
+-- the dot of the variance a / d: r is its deviation. dotNumber and dotValue are the paper's number and value of each case
 pub record DotOf (a d : ℕ) (z : DotAnswer) : Type 0 where
   pub r : ℕ
   pub greatest : Greatest (within a d) r
-  pub nought : r ≡ 0 → (z .number ≡ 0) × (z .dot ≡ Nought)
-  pub drawn : 1 ≤ r → r ≤ 2 ^ 62 → (v : Float) × (z .number ≡ 0) × (z .dot ≡ Drawn v) × GreatestDouble r v
+  pub nought : r ≡ 0 → (z .number ≡ 0) × (z .dot ≡ Nought) × (dotNumber (z .dot) ≡ 0) × (dotValue (z .dot) ≡ plusZero)
+  pub drawn : 1 ≤ r → r ≤ 2 ^ 62 → (z .number ≡ 0) × (z .dot ≡ Drawn (dotValue (z .dot))) × (dotNumber (z .dot) ≡ 0) × GreatestDouble r (dotValue (z .dot))
   pub above : 2 ^ 62 < r → z .number ≡ 3
 
 -- ---- fractions and deviations
