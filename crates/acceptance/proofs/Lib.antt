@@ -1,1 +1,6 @@
 pub mod Figures
+pub mod NoughtLaws
+pub mod PromiseLaws
+pub mod Condition1
+pub mod Condition2
+pub mod Condition3

@@ -1,1 +1,2 @@
-// What the customer opens first, and no code: the starred figures of the outline as a single table (specs/) with one proof (proofs/).
+// What the customer opens first, and no code: the three conditions restated over the functions' own contracts (proofs/Condition1 to Condition3), and
+// the starred figures of the outline as a single table (specs/Figures) with one proof.

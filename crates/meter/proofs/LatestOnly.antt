@@ -23,7 +23,7 @@ use Rattle.meter.specs.declared.Meter.{Meter}
 use Rattle.meter.specs.declared.MeterAnswer.{MeterAnswer}
 use Rattle.meter.proofs.Running.{meterAfter, Running}
 use Rattle.meter.proofs.Trace.{Samples, sample-answers, Trace}
-use Rattle.meter.proofs.Condition3.{trace-runs}
+use Rattle.meter.proofs.AnyCalls.{trace-runs}
 
 -- ---- one call
 

@@ -4,6 +4,6 @@ pub mod AnswerLaws
 pub mod Stream
 pub mod Running
 pub mod Trace
-pub mod Condition3
+pub mod AnyCalls
 pub mod LatestOnly
 pub mod Unique

@@ -1,4 +1,5 @@
--- Condition 3, over any sequence of calls that the contracts of the meter's functions allow.
+-- After any sequence of calls that the contracts of the meter's functions allow, the report is the published sums of the samples accepted since the latest
+-- accepted start, every sample in range is taken, and refused calls change nothing.
 use mathlib.Core.Path.{_≡_, refl, sym, ap, _∙_}
 use mathlib.Core.Bool.{Bool, true, false, cond}
 use mathlib.Core.List.{List, [], _∷_, _++_}
@@ -111,7 +112,7 @@ trace-runs (sample-refused t call refused) started =
     let same = refused-sample-changes-nothing call refused in rw (same .0, same .1) (trace-runs t started)
 trace-runs (reported t call) started = trace-runs t started
 
--- ---- condition 3
+-- ---- the report, and what is taken
 
 -- After any sequence of starts, samples, reports and refused calls, each lent its own ring and given the meter as the call before gave it back, the
 -- report equals the published sums and counts, worked directly over every sample accepted since the latest accepted start.

@@ -1,0 +1,564 @@
+-- Condition 1: every input is answered or refused by number. For each public function of each crate: any two results that its own contract allows of
+-- the same arguments are equal, and so is what is left of each lent buffer (Single); beside a refusal every other value is nought, a lent buffer and a
+-- meter are as they came (NAME-settled); the entries of a buffer past the output are never changed, refused or not (NAME-past). Single and Always
+-- stand in crates/laws/proofs/Single.antt, the noughts in specs/Noughts.antt. No public function has a `requires`, and none is an exception.
+use mathlib.Core.Path.{_≡_, refl, sym, ap, _∙_}
+use Prim.Native.Nat.{ℕ, _*_, _%_, _≤_}
+use borrow.Fn.Kinds.{endedOf}
+use denote.Ref.{now}
+use denote.Triple.Clauses.{atExit}
+use lib.IntN.{ℤ}
+use lib.ListN.{length, getD}
+use Rattle.laws.proofs.Single.{Single, Always, Settled}
+use Rattle.wide.proofs.Unique.{sum-single, at-most-single, product-low-single, product-single, size-single, with-square-single, divided-single, root-single, square-at-most-single}
+use Rattle.record.proofs.Unique.{in-range-single, range-refusal-single, size-refusal-single, record-refusal-single, refused-count-single}
+use Rattle.frequency.proofs.Unique.{phase-from-frequency-single, frequency-from-phase-single}
+use Rattle.sums.proofs.Unique.{allan-sum-single, modified-sum-single}
+use Rattle.drift.proofs.Unique.{drift-figure-single, remove-drift-single}
+use Rattle.meter.proofs.Unique.{start-single, sample-single, report-single}
+use Rattle.readings.proofs.Unique.{float-sums-single}
+use Rattle.phr.proofs.Unique.{read-file-single, write-file-single}
+use Rattle.plot.proofs.Unique.{drawn-number-single, allan-dot-single, time-dot-single}
+use Rattle.ploegelster.proofs.Unique.{plg-allan-dot-single, plg-time-dot-single}
+use Rattle.frequency.proofs.FrequencyLaws.{phases-length, differences-length}
+use Rattle.sums.specs.Answers.{allanSumAnswer, modifiedSumAnswer}
+use Rattle.drift.proofs.DriftLaws.{without-drift-length}
+use Rattle.meter.specs.Answers.{startAnswer, sampleAnswer}
+use Rattle.phr.proofs.RoundTrip.{file-length}
+use Rattle.plot.specs.Dots.{allanDotAnswer, timeDotAnswer}
+use Rattle.plot.specs.declared.dots.DotAnswer.{DotAnswer}
+use Rattle.ploegelster.specs.Boundary.{toldDot}
+use Rattle.acceptance.specs.Noughts.{Refused, CountNought, ReadNought, SumNought, PartValuesNought, FloatNought, ReportNought, DriftNought, DrawnNought, DotNought, ToldDotNought}
+use Rattle.acceptance.proofs.NoughtLaws.{count-noughts, past-the-count, read-noughts, past-the-values, sum-noughts, float-noughts, float-part-noughts, past-the-samples, report-noughts, report-part-noughts, drift-noughts, meter-as-it-came, ring-as-it-came, other-slots-unchanged, drawn-noughts, dot-noughts, told-dot-noughts}
+use Rattle.wide.proofs.sum.Reads as wide-sum
+use Rattle.wide.proofs.sum.Kinds as wide-sum-kinds
+use Rattle.wide.proofs.at_most.Reads as wide-at-most
+use Rattle.wide.proofs.at_most.Kinds as wide-at-most-kinds
+use Rattle.wide.proofs.product_low.Reads as wide-product-low
+use Rattle.wide.proofs.product_low.Kinds as wide-product-low-kinds
+use Rattle.wide.proofs.product.Reads as wide-product
+use Rattle.wide.proofs.product.Kinds as wide-product-kinds
+use Rattle.wide.proofs.size.Reads as wide-size
+use Rattle.wide.proofs.size.Kinds as wide-size-kinds
+use Rattle.wide.proofs.with_square.Reads as wide-with-square
+use Rattle.wide.proofs.with_square.Kinds as wide-with-square-kinds
+use Rattle.wide.proofs.divided.Reads as wide-divided
+use Rattle.wide.proofs.divided.Kinds as wide-divided-kinds
+use Rattle.wide.proofs.root.Reads as wide-root
+use Rattle.wide.proofs.root.Kinds as wide-root-kinds
+use Rattle.wide.proofs.square_at_most.Reads as wide-square-at-most
+use Rattle.wide.proofs.square_at_most.Kinds as wide-square-at-most-kinds
+use Rattle.record.proofs.in_range.Reads as in-range
+use Rattle.record.proofs.in_range.Kinds as in-range-kinds
+use Rattle.record.proofs.range_refusal.Reads as range-refusal
+use Rattle.record.proofs.range_refusal.Kinds as range-refusal-kinds
+use Rattle.record.proofs.size_refusal.Reads as size-refusal
+use Rattle.record.proofs.size_refusal.Kinds as size-refusal-kinds
+use Rattle.record.proofs.record_refusal.Reads as record-refusal
+use Rattle.record.proofs.record_refusal.Kinds as record-refusal-kinds
+use Rattle.record.proofs.refused_count.Reads as refused-count
+use Rattle.record.proofs.refused_count.Kinds as refused-count-kinds
+use Rattle.frequency.proofs.phase_from_frequency.Reads as phase-from-frequency
+use Rattle.frequency.proofs.phase_from_frequency.Kinds as phase-from-frequency-kinds
+use Rattle.frequency.proofs.frequency_from_phase.Reads as frequency-from-phase
+use Rattle.frequency.proofs.frequency_from_phase.Kinds as frequency-from-phase-kinds
+use Rattle.sums.proofs.allan_sum.Reads as allan-sum
+use Rattle.sums.proofs.allan_sum.Kinds as allan-sum-kinds
+use Rattle.sums.proofs.modified_sum.Reads as modified-sum
+use Rattle.sums.proofs.modified_sum.Kinds as modified-sum-kinds
+use Rattle.drift.proofs.drift_figure.Reads as drift-figure
+use Rattle.drift.proofs.drift_figure.Kinds as drift-figure-kinds
+use Rattle.drift.proofs.remove_drift.Reads as remove-drift
+use Rattle.drift.proofs.remove_drift.Kinds as remove-drift-kinds
+use Rattle.meter.proofs.Meter.start.Reads as meter-start
+use Rattle.meter.proofs.Meter.start.Kinds as meter-start-kinds
+use Rattle.meter.proofs.Meter.sample.Reads as meter-sample
+use Rattle.meter.proofs.Meter.sample.Kinds as meter-sample-kinds
+use Rattle.meter.proofs.Meter.report.Reads as meter-report
+use Rattle.meter.proofs.Meter.report.Kinds as meter-report-kinds
+use Rattle.readings.proofs.float_sums.Reads as float-sums
+use Rattle.readings.proofs.float_sums.Kinds as float-sums-kinds
+use Rattle.phr.proofs.read_file.Reads as read-file
+use Rattle.phr.proofs.read_file.Kinds as read-file-kinds
+use Rattle.phr.proofs.write_file.Reads as write-file
+use Rattle.phr.proofs.write_file.Kinds as write-file-kinds
+use Rattle.plot.proofs.drawn.drawn_number.Reads as drawn-number
+use Rattle.plot.proofs.drawn.drawn_number.Kinds as drawn-number-kinds
+use Rattle.plot.proofs.dots.allan_dot.Reads as allan-dot
+use Rattle.plot.proofs.dots.allan_dot.Kinds as allan-dot-kinds
+use Rattle.plot.proofs.dots.time_dot.Reads as time-dot
+use Rattle.plot.proofs.dots.time_dot.Kinds as time-dot-kinds
+use Rattle.ploegelster.proofs.published.plg_allan_sum.Reads as plg-allan-sum
+use Rattle.ploegelster.proofs.published.plg_allan_sum.Kinds as plg-allan-sum-kinds
+use Rattle.ploegelster.proofs.published.plg_modified_sum.Reads as plg-modified-sum
+use Rattle.ploegelster.proofs.published.plg_modified_sum.Kinds as plg-modified-sum-kinds
+use Rattle.ploegelster.proofs.phases.plg_phase_from_frequency.Reads as plg-phase-from-frequency
+use Rattle.ploegelster.proofs.phases.plg_phase_from_frequency.Kinds as plg-phase-from-frequency-kinds
+use Rattle.ploegelster.proofs.phases.plg_frequency_from_phase.Reads as plg-frequency-from-phase
+use Rattle.ploegelster.proofs.phases.plg_frequency_from_phase.Kinds as plg-frequency-from-phase-kinds
+use Rattle.ploegelster.proofs.phases.plg_drift_figure.Reads as plg-drift-figure
+use Rattle.ploegelster.proofs.phases.plg_drift_figure.Kinds as plg-drift-figure-kinds
+use Rattle.ploegelster.proofs.phases.plg_remove_drift.Reads as plg-remove-drift
+use Rattle.ploegelster.proofs.phases.plg_remove_drift.Kinds as plg-remove-drift-kinds
+use Rattle.ploegelster.proofs.floats.plg_float_sums.Reads as plg-float-sums
+use Rattle.ploegelster.proofs.floats.plg_float_sums.Kinds as plg-float-sums-kinds
+use Rattle.ploegelster.proofs.meters.plg_meter_start.Reads as plg-meter-start
+use Rattle.ploegelster.proofs.meters.plg_meter_start.Kinds as plg-meter-start-kinds
+use Rattle.ploegelster.proofs.meters.plg_meter_sample.Reads as plg-meter-sample
+use Rattle.ploegelster.proofs.meters.plg_meter_sample.Kinds as plg-meter-sample-kinds
+use Rattle.ploegelster.proofs.meters.plg_meter_report.Reads as plg-meter-report
+use Rattle.ploegelster.proofs.meters.plg_meter_report.Kinds as plg-meter-report-kinds
+use Rattle.ploegelster.proofs.files.plg_read_file.Reads as plg-read-file
+use Rattle.ploegelster.proofs.files.plg_read_file.Kinds as plg-read-file-kinds
+use Rattle.ploegelster.proofs.files.plg_write_file.Reads as plg-write-file
+use Rattle.ploegelster.proofs.files.plg_write_file.Kinds as plg-write-file-kinds
+use Rattle.ploegelster.proofs.drawing.plg_drawn_number.Reads as plg-drawn-number
+use Rattle.ploegelster.proofs.drawing.plg_drawn_number.Kinds as plg-drawn-number-kinds
+use Rattle.ploegelster.proofs.drawing.plg_allan_dot.Reads as plg-allan-dot
+use Rattle.ploegelster.proofs.drawing.plg_allan_dot.Kinds as plg-allan-dot-kinds
+use Rattle.ploegelster.proofs.drawing.plg_time_dot.Reads as plg-time-dot
+use Rattle.ploegelster.proofs.drawing.plg_time_dot.Kinds as plg-time-dot-kinds
+-- fractions and deviations
+use Rattle.variances.proofs.Unique.{allan-fraction-single, time-fraction-single, allan-deviation-single, time-deviation-single}
+use Rattle.variances.specs.Answers.{allanFractionAnswer, timeFractionAnswer, allanDeviationAnswer, timeDeviationAnswer}
+use Rattle.variances.proofs.allan_fraction.Reads as allan-fraction
+use Rattle.variances.proofs.allan_fraction.Kinds as allan-fraction-kinds
+use Rattle.variances.proofs.time_fraction.Reads as time-fraction
+use Rattle.variances.proofs.time_fraction.Kinds as time-fraction-kinds
+use Rattle.variances.proofs.allan_deviation.Reads as allan-deviation
+use Rattle.variances.proofs.allan_deviation.Kinds as allan-deviation-kinds
+use Rattle.variances.proofs.time_deviation.Reads as time-deviation
+use Rattle.variances.proofs.time_deviation.Kinds as time-deviation-kinds
+use Rattle.ploegelster.proofs.published.plg_allan_fraction.Reads as plg-allan-fraction
+use Rattle.ploegelster.proofs.published.plg_allan_fraction.Kinds as plg-allan-fraction-kinds
+use Rattle.ploegelster.proofs.published.plg_time_fraction.Reads as plg-time-fraction
+use Rattle.ploegelster.proofs.published.plg_time_fraction.Kinds as plg-time-fraction-kinds
+use Rattle.ploegelster.proofs.published.plg_allan_deviation.Reads as plg-allan-deviation
+use Rattle.ploegelster.proofs.published.plg_allan_deviation.Kinds as plg-allan-deviation-kinds
+use Rattle.ploegelster.proofs.published.plg_time_deviation.Reads as plg-time-deviation
+use Rattle.ploegelster.proofs.published.plg_time_deviation.Kinds as plg-time-deviation-kinds
+-- noise types and bars
+use Rattle.noise.proofs.Unique.{noise-type-single, noise-of-record-single, bars-single}
+use Rattle.noise.specs.Noise.{typeAnswer, recordTypeAnswer}
+use Rattle.noise.specs.declared.NoiseAnswer.{NoiseAnswer}
+use Rattle.noise.proofs.noise_type.Reads as noise-type
+use Rattle.noise.proofs.noise_type.Kinds as noise-type-kinds
+use Rattle.noise.proofs.noise_of_record.Reads as noise-of-record
+use Rattle.noise.proofs.noise_of_record.Kinds as noise-of-record-kinds
+use Rattle.noise.proofs.bars.bars.Reads as bars
+use Rattle.noise.proofs.bars.bars.Kinds as bars-kinds
+use Rattle.ploegelster.proofs.Unique.{plg-noise-type-single, plg-noise-of-record-single, plg-bars-single}
+use Rattle.ploegelster.specs.Boundary.{toldNoise}
+use Rattle.ploegelster.proofs.drawing.plg_noise_type.Reads as plg-noise-type
+use Rattle.ploegelster.proofs.drawing.plg_noise_type.Kinds as plg-noise-type-kinds
+use Rattle.ploegelster.proofs.drawing.plg_noise_of_record.Reads as plg-noise-of-record
+use Rattle.ploegelster.proofs.drawing.plg_noise_of_record.Kinds as plg-noise-of-record-kinds
+use Rattle.ploegelster.proofs.drawing.plg_bars.Reads as plg-bars
+use Rattle.ploegelster.proofs.drawing.plg_bars.Kinds as plg-bars-kinds
+use Rattle.acceptance.specs.Noughts.{FractionNought, DeviationNought, NoiseNought, ToldNoiseNought, BarsNought}
+use Rattle.acceptance.proofs.NoughtLaws.{fraction-noughts, deviation-noughts, noise-noughts, told-noise-noughts, bars-noughts, alpha-bars-noughts}
+
+-- ---- wide: whole numbers of 128 bits; nothing is refused
+
+pub wide-sum-one-answer : Single 0 wide-sum-kinds.ps wide-sum-kinds.r wide-sum.Post
+wide-sum-one-answer = sum-single
+
+pub wide-at-most-one-answer : Single 0 wide-at-most-kinds.ps wide-at-most-kinds.r wide-at-most.Post
+wide-at-most-one-answer = at-most-single
+
+pub wide-product-low-one-answer : Single 0 wide-product-low-kinds.ps wide-product-low-kinds.r wide-product-low.Post
+wide-product-low-one-answer = product-low-single
+
+pub wide-product-one-answer : Single 0 wide-product-kinds.ps wide-product-kinds.r wide-product.Post
+wide-product-one-answer = product-single
+
+pub wide-size-one-answer : Single 0 wide-size-kinds.ps wide-size-kinds.r wide-size.Post
+wide-size-one-answer = size-single
+
+pub wide-with-square-one-answer : Single 0 wide-with-square-kinds.ps wide-with-square-kinds.r wide-with-square.Post
+wide-with-square-one-answer = with-square-single
+
+pub wide-divided-one-answer : Single 0 wide-divided-kinds.ps wide-divided-kinds.r wide-divided.Post
+wide-divided-one-answer = divided-single
+
+pub wide-root-one-answer : Single 0 wide-root-kinds.ps wide-root-kinds.r wide-root.Post
+wide-root-one-answer = root-single
+
+pub wide-square-at-most-one-answer : Single 0 wide-square-at-most-kinds.ps wide-square-at-most-kinds.r wide-square-at-most.Post
+wide-square-at-most-one-answer = square-at-most-single
+
+-- ---- record: the checks; what they answer is a test, a refusal, or a refusal beside nought
+
+pub in-range-one-answer : Single 0 in-range-kinds.ps in-range-kinds.r in-range.Post
+in-range-one-answer = in-range-single
+
+pub range-refusal-one-answer : Single 1 range-refusal-kinds.ps range-refusal-kinds.r range-refusal.Post
+range-refusal-one-answer = range-refusal-single
+
+pub size-refusal-one-answer : Single 0 size-refusal-kinds.ps size-refusal-kinds.r size-refusal.Post
+size-refusal-one-answer = size-refusal-single
+
+pub record-refusal-one-answer : Single 1 record-refusal-kinds.ps record-refusal-kinds.r record-refusal.Post
+record-refusal-one-answer = record-refusal-single
+
+pub refused-count-one-answer : Single 0 refused-count-kinds.ps refused-count-kinds.r refused-count.Post
+refused-count-one-answer = refused-count-single
+
+-- ---- frequency
+
+pub phase-from-frequency-settled : Settled 2 phase-from-frequency-kinds.ps phase-from-frequency-kinds.r phase-from-frequency.Post
+    (λ κs args z w. let buffer = now (args .1 .0) in let left = w .1 .0 in Refused (z .number) → CountNought z × (left ≡ buffer))
+phase-from-frequency-settled = (phase-from-frequency-single, λ κs args z w is. rw (is .0, is .1) (count-noughts _ _ _ _))
+
+-- the answer's count is the length of the output, nought where the call is refused
+pub phase-from-frequency-past : Always 2 phase-from-frequency-kinds.ps phase-from-frequency-kinds.r phase-from-frequency.Post
+    (λ κs args z w. let buffer = now (args .1 .0) in let left = w .1 .0 in (i : ℕ) (e : ℤ) → z .count ≤ i → getD left i e ≡ getD buffer i e)
+phase-from-frequency-past κs args z w is = rw (is .0, is .1) (past-the-count _ _ _ _ (phases-length _))
+
+pub frequency-from-phase-settled : Settled 2 frequency-from-phase-kinds.ps frequency-from-phase-kinds.r frequency-from-phase.Post
+    (λ κs args z w. let buffer = now (args .1 .0) in let left = w .1 .0 in Refused (z .number) → CountNought z × (left ≡ buffer))
+frequency-from-phase-settled = (frequency-from-phase-single, λ κs args z w is. rw (is .0, is .1) (count-noughts _ _ _ _))
+
+pub frequency-from-phase-past : Always 2 frequency-from-phase-kinds.ps frequency-from-phase-kinds.r frequency-from-phase.Post
+    (λ κs args z w. let buffer = now (args .1 .0) in let left = w .1 .0 in (i : ℕ) (e : ℤ) → z .count ≤ i → getD left i e ≡ getD buffer i e)
+frequency-from-phase-past κs args z w is = rw (is .0, is .1) (past-the-count _ _ _ _ (differences-length _))
+
+-- ---- sums
+
+pub allan-sum-settled : Settled 1 allan-sum-kinds.ps allan-sum-kinds.r allan-sum.Post
+    (λ κs args z w. Refused (z .number) → SumNought z)
+unfolding allanSumAnswer
+allan-sum-settled = (allan-sum-single, λ κs args z w is. rw is (sum-noughts _ _ _))
+
+pub modified-sum-settled : Settled 1 modified-sum-kinds.ps modified-sum-kinds.r modified-sum.Post
+    (λ κs args z w. Refused (z .number) → SumNought z)
+unfolding modifiedSumAnswer
+modified-sum-settled = (modified-sum-single, λ κs args z w is. rw is (sum-noughts _ _ _))
+
+-- ---- drift
+
+pub drift-figure-settled : Settled 1 drift-figure-kinds.ps drift-figure-kinds.r drift-figure.Post
+    (λ κs args z w. Refused (z .number) → DriftNought z)
+drift-figure-settled = (drift-figure-single, λ κs args z w is. rw is (drift-noughts _))
+
+pub remove-drift-settled : Settled 2 remove-drift-kinds.ps remove-drift-kinds.r remove-drift.Post
+    (λ κs args z w. let buffer = now (args .1 .0) in let left = w .1 .0 in Refused (z .number) → CountNought z × (left ≡ buffer))
+remove-drift-settled = (remove-drift-single, λ κs args z w is. rw (is .0, is .1) (count-noughts _ _ _ _))
+
+pub remove-drift-past : Always 2 remove-drift-kinds.ps remove-drift-kinds.r remove-drift.Post
+    (λ κs args z w. let buffer = now (args .1 .0) in let left = w .1 .0 in (i : ℕ) (e : ℤ) → z .count ≤ i → getD left i e ≡ getD buffer i e)
+remove-drift-past κs args z w is = rw (is .0, is .1) (past-the-count _ _ _ _ (without-drift-length _))
+
+-- ---- meter: a ring that is lent for a start is read alone
+
+pub meter-start-settled : Settled 1 meter-start-kinds.ps meter-start-kinds.r meter-start.Post
+    (λ κs args z w. let old = args .0 in Refused (z .number) → z .meter ≡ old)
+unfolding startAnswer
+meter-start-settled = (start-single, λ κs args z w is. rw is (meter-as-it-came _ _ _))
+
+pub meter-sample-settled : Settled 1 meter-sample-kinds.ps meter-sample-kinds.r meter-sample.Post
+    (λ κs args z w. let x = args .0 in let ring = now (args .1 .0) in let left = w .1 .0 in Refused (z .number) → (z .meter ≡ x) × (left ≡ ring))
+unfolding sampleAnswer
+meter-sample-settled = (sample-single, λ κs args z w is. rw (is .0, is .1) (λ some. (meter-as-it-came _ _ _ some, ring-as-it-came _ _ _ some)))
+
+-- a sample call changes no slot of the ring but its own, n mod 3m
+pub meter-sample-past : Always 1 meter-sample-kinds.ps meter-sample-kinds.r meter-sample.Post
+    (λ κs args z w. let x = args .0 in let ring = now (args .1 .0) in let left = w .1 .0 in
+    (i : ℕ) (e : ℤ) → (i ≡ x .n % (3 * x .m) → ⊥) → getD left i e ≡ getD ring i e)
+meter-sample-past κs args z w is = rw (is .1) (other-slots-unchanged _ _ _)
+
+-- a 1 for one part is no refusal of the call: the values of that part are noughts
+pub meter-report-settled : Settled 0 meter-report-kinds.ps meter-report-kinds.r meter-report.Post
+    (λ κs args z w. (Refused (z .number) → ReportNought z)
+    × (Refused (z .allan .number) → PartValuesNought (z .allan))
+    × (Refused (z .modified .number) → PartValuesNought (z .modified)))
+meter-report-settled = (report-single, λ κs args z w is. rw is (report-noughts _, report-part-noughts _ .0, report-part-noughts _ .1))
+
+-- ---- readings
+
+pub float-sums-settled : Settled 2 float-sums-kinds.ps float-sums-kinds.r float-sums.Post
+    (λ κs args z w. let buffer = now (args .1 .1 .0) in let left = w .1 .1 .0 in
+    (Refused (z .number) → FloatNought z × (left ≡ buffer))
+    × (Refused (z .allan .number) → PartValuesNought (z .allan))
+    × (Refused (z .modified .number) → PartValuesNought (z .modified)))
+float-sums-settled = (
+  float-sums-single,
+  λ κs args z w is.
+      let parts = float-part-noughts (args .1 .0) (now (args .0)) (now (args .1 .1 .0)) in
+      rw (is .0, is .1) (float-noughts _ _ _, parts .0, parts .1),
+)
+
+pub float-sums-past : Always 2 float-sums-kinds.ps float-sums-kinds.r float-sums.Post
+    (λ κs args z w. let xs = now (args .0) in let buffer = now (args .1 .1 .0) in let left = w .1 .1 .0 in
+    (i : ℕ) (e : ℤ) → length xs ≤ i → getD left i e ≡ getD buffer i e)
+float-sums-past κs args z w is = rw (is .1) (past-the-samples (args .1 .0) (now (args .0)) (now (args .1 .1 .0)))
+
+-- ---- phr
+
+pub read-file-settled : Settled 2 read-file-kinds.ps read-file-kinds.r read-file.Post
+    (λ κs args z w. let buffer = now (args .1 .0) in let left = w .1 .0 in Refused (z .number) → ReadNought z × (left ≡ buffer))
+read-file-settled = (read-file-single, λ κs args z w is. rw (is .0, is .1) (read-noughts _ _))
+
+pub read-file-past : Always 2 read-file-kinds.ps read-file-kinds.r read-file.Post
+    (λ κs args z w. let buffer = now (args .1 .0) in let left = w .1 .0 in (i : ℕ) (e : ℤ) → z .count ≤ i → getD left i e ≡ getD buffer i e)
+read-file-past κs args z w is = rw (is .0, is .1) (past-the-values (now (args .0)) (now (args .1 .0)))
+
+pub write-file-settled : Settled 2 write-file-kinds.ps write-file-kinds.r write-file.Post
+    (λ κs args z w. let buffer = now (args .1 .1 .0) in let left = w .1 .1 .0 in Refused (z .number) → CountNought z × (left ≡ buffer))
+write-file-settled = (write-file-single, λ κs args z w is. rw (is .0, is .1) (count-noughts _ _ _ _))
+
+pub write-file-past : Always 2 write-file-kinds.ps write-file-kinds.r write-file.Post
+    (λ κs args z w. let buffer = now (args .1 .1 .0) in let left = w .1 .1 .0 in (i : ℕ) (e : ℕ) → z .count ≤ i → getD left i e ≡ getD buffer i e)
+write-file-past κs args z w is = rw (is .0, is .1) (past-the-count _ _ _ _ (file-length _ _))
+
+-- ---- plot: what is drawn
+
+pub drawn-number-settled : Settled 0 drawn-number-kinds.ps drawn-number-kinds.r drawn-number.Post
+    (λ κs args z w. Refused (z .number) → DrawnNought z)
+drawn-number-settled = (drawn-number-single, λ κs args z w is. rw is (drawn-noughts _))
+
+pub allan-dot-settled : Settled 0 allan-dot-kinds.ps allan-dot-kinds.r allan-dot.Post
+    (λ κs args z w. Refused (z .number) → DotNought z)
+unfolding allanDotAnswer
+allan-dot-settled = (allan-dot-single, λ κs args z w is. rw is (dot-noughts _))
+
+pub time-dot-settled : Settled 0 time-dot-kinds.ps time-dot-kinds.r time-dot.Post
+    (λ κs args z w. Refused (z .number) → DotNought z)
+unfolding timeDotAnswer
+time-dot-settled = (time-dot-single, λ κs args z w is. rw is (dot-noughts _))
+
+-- ---- ploegelster, the library that an app links: each contract is the entry's own (NAME-is), so that all that is said of the entry holds of it
+
+pub plg-allan-sum-is : plg-allan-sum.Post ≡ allan-sum.Post
+plg-allan-sum-is = refl
+
+pub plg-allan-sum-settled : Settled 1 plg-allan-sum-kinds.ps plg-allan-sum-kinds.r plg-allan-sum.Post
+    (λ κs args z w. Refused (z .number) → SumNought z)
+plg-allan-sum-settled = allan-sum-settled
+
+pub plg-modified-sum-is : plg-modified-sum.Post ≡ modified-sum.Post
+plg-modified-sum-is = refl
+
+pub plg-modified-sum-settled : Settled 1 plg-modified-sum-kinds.ps plg-modified-sum-kinds.r plg-modified-sum.Post
+    (λ κs args z w. Refused (z .number) → SumNought z)
+plg-modified-sum-settled = modified-sum-settled
+
+pub plg-phase-from-frequency-is : plg-phase-from-frequency.Post ≡ phase-from-frequency.Post
+plg-phase-from-frequency-is = refl
+
+pub plg-phase-from-frequency-settled : Settled 2 plg-phase-from-frequency-kinds.ps plg-phase-from-frequency-kinds.r plg-phase-from-frequency.Post
+    (λ κs args z w. let buffer = now (args .1 .0) in let left = w .1 .0 in Refused (z .number) → CountNought z × (left ≡ buffer))
+plg-phase-from-frequency-settled = phase-from-frequency-settled
+
+pub plg-phase-from-frequency-past : Always 2 plg-phase-from-frequency-kinds.ps plg-phase-from-frequency-kinds.r plg-phase-from-frequency.Post
+    (λ κs args z w. let buffer = now (args .1 .0) in let left = w .1 .0 in (i : ℕ) (e : ℤ) → z .count ≤ i → getD left i e ≡ getD buffer i e)
+plg-phase-from-frequency-past = phase-from-frequency-past
+
+pub plg-frequency-from-phase-is : plg-frequency-from-phase.Post ≡ frequency-from-phase.Post
+plg-frequency-from-phase-is = refl
+
+pub plg-frequency-from-phase-settled : Settled 2 plg-frequency-from-phase-kinds.ps plg-frequency-from-phase-kinds.r plg-frequency-from-phase.Post
+    (λ κs args z w. let buffer = now (args .1 .0) in let left = w .1 .0 in Refused (z .number) → CountNought z × (left ≡ buffer))
+plg-frequency-from-phase-settled = frequency-from-phase-settled
+
+pub plg-frequency-from-phase-past : Always 2 plg-frequency-from-phase-kinds.ps plg-frequency-from-phase-kinds.r plg-frequency-from-phase.Post
+    (λ κs args z w. let buffer = now (args .1 .0) in let left = w .1 .0 in (i : ℕ) (e : ℤ) → z .count ≤ i → getD left i e ≡ getD buffer i e)
+plg-frequency-from-phase-past = frequency-from-phase-past
+
+pub plg-drift-figure-is : plg-drift-figure.Post ≡ drift-figure.Post
+plg-drift-figure-is = refl
+
+pub plg-drift-figure-settled : Settled 1 plg-drift-figure-kinds.ps plg-drift-figure-kinds.r plg-drift-figure.Post
+    (λ κs args z w. Refused (z .number) → DriftNought z)
+plg-drift-figure-settled = drift-figure-settled
+
+pub plg-remove-drift-is : plg-remove-drift.Post ≡ remove-drift.Post
+plg-remove-drift-is = refl
+
+pub plg-remove-drift-settled : Settled 2 plg-remove-drift-kinds.ps plg-remove-drift-kinds.r plg-remove-drift.Post
+    (λ κs args z w. let buffer = now (args .1 .0) in let left = w .1 .0 in Refused (z .number) → CountNought z × (left ≡ buffer))
+plg-remove-drift-settled = remove-drift-settled
+
+pub plg-remove-drift-past : Always 2 plg-remove-drift-kinds.ps plg-remove-drift-kinds.r plg-remove-drift.Post
+    (λ κs args z w. let buffer = now (args .1 .0) in let left = w .1 .0 in (i : ℕ) (e : ℤ) → z .count ≤ i → getD left i e ≡ getD buffer i e)
+plg-remove-drift-past = remove-drift-past
+
+pub plg-float-sums-is : plg-float-sums.Post ≡ float-sums.Post
+plg-float-sums-is = refl
+
+pub plg-float-sums-settled : Settled 2 plg-float-sums-kinds.ps plg-float-sums-kinds.r plg-float-sums.Post
+    (λ κs args z w. let buffer = now (args .1 .1 .0) in let left = w .1 .1 .0 in
+    (Refused (z .number) → FloatNought z × (left ≡ buffer))
+    × (Refused (z .allan .number) → PartValuesNought (z .allan))
+    × (Refused (z .modified .number) → PartValuesNought (z .modified)))
+plg-float-sums-settled = float-sums-settled
+
+pub plg-float-sums-past : Always 2 plg-float-sums-kinds.ps plg-float-sums-kinds.r plg-float-sums.Post
+    (λ κs args z w. let xs = now (args .0) in let buffer = now (args .1 .1 .0) in let left = w .1 .1 .0 in
+    (i : ℕ) (e : ℤ) → length xs ≤ i → getD left i e ≡ getD buffer i e)
+plg-float-sums-past = float-sums-past
+
+pub plg-meter-start-is : plg-meter-start.Post ≡ meter-start.Post
+plg-meter-start-is = refl
+
+pub plg-meter-start-settled : Settled 1 plg-meter-start-kinds.ps plg-meter-start-kinds.r plg-meter-start.Post
+    (λ κs args z w. let old = args .0 in Refused (z .number) → z .meter ≡ old)
+plg-meter-start-settled = meter-start-settled
+
+pub plg-meter-sample-is : plg-meter-sample.Post ≡ meter-sample.Post
+plg-meter-sample-is = refl
+
+pub plg-meter-sample-settled : Settled 1 plg-meter-sample-kinds.ps plg-meter-sample-kinds.r plg-meter-sample.Post
+    (λ κs args z w. let x = args .0 in let ring = now (args .1 .0) in let left = w .1 .0 in Refused (z .number) → (z .meter ≡ x) × (left ≡ ring))
+plg-meter-sample-settled = meter-sample-settled
+
+pub plg-meter-sample-past : Always 1 plg-meter-sample-kinds.ps plg-meter-sample-kinds.r plg-meter-sample.Post
+    (λ κs args z w. let x = args .0 in let ring = now (args .1 .0) in let left = w .1 .0 in
+    (i : ℕ) (e : ℤ) → (i ≡ x .n % (3 * x .m) → ⊥) → getD left i e ≡ getD ring i e)
+plg-meter-sample-past = meter-sample-past
+
+pub plg-meter-report-is : plg-meter-report.Post ≡ meter-report.Post
+plg-meter-report-is = refl
+
+pub plg-meter-report-settled : Settled 0 plg-meter-report-kinds.ps plg-meter-report-kinds.r plg-meter-report.Post
+    (λ κs args z w. (Refused (z .number) → ReportNought z)
+    × (Refused (z .allan .number) → PartValuesNought (z .allan))
+    × (Refused (z .modified .number) → PartValuesNought (z .modified)))
+plg-meter-report-settled = meter-report-settled
+
+pub plg-read-file-is : plg-read-file.Post ≡ read-file.Post
+plg-read-file-is = refl
+
+pub plg-read-file-settled : Settled 2 plg-read-file-kinds.ps plg-read-file-kinds.r plg-read-file.Post
+    (λ κs args z w. let buffer = now (args .1 .0) in let left = w .1 .0 in Refused (z .number) → ReadNought z × (left ≡ buffer))
+plg-read-file-settled = read-file-settled
+
+pub plg-read-file-past : Always 2 plg-read-file-kinds.ps plg-read-file-kinds.r plg-read-file.Post
+    (λ κs args z w. let buffer = now (args .1 .0) in let left = w .1 .0 in (i : ℕ) (e : ℤ) → z .count ≤ i → getD left i e ≡ getD buffer i e)
+plg-read-file-past = read-file-past
+
+pub plg-write-file-is : plg-write-file.Post ≡ write-file.Post
+plg-write-file-is = refl
+
+pub plg-write-file-settled : Settled 2 plg-write-file-kinds.ps plg-write-file-kinds.r plg-write-file.Post
+    (λ κs args z w. let buffer = now (args .1 .1 .0) in let left = w .1 .1 .0 in Refused (z .number) → CountNought z × (left ≡ buffer))
+plg-write-file-settled = write-file-settled
+
+pub plg-write-file-past : Always 2 plg-write-file-kinds.ps plg-write-file-kinds.r plg-write-file.Post
+    (λ κs args z w. let buffer = now (args .1 .1 .0) in let left = w .1 .1 .0 in (i : ℕ) (e : ℕ) → z .count ≤ i → getD left i e ≡ getD buffer i e)
+plg-write-file-past = write-file-past
+
+pub plg-drawn-number-is : plg-drawn-number.Post ≡ drawn-number.Post
+plg-drawn-number-is = refl
+
+pub plg-drawn-number-settled : Settled 0 plg-drawn-number-kinds.ps plg-drawn-number-kinds.r plg-drawn-number.Post
+    (λ κs args z w. Refused (z .number) → DrawnNought z)
+plg-drawn-number-settled = drawn-number-settled
+
+-- C has no enum: a dot is told as a kind and a double, whatever dot the entry's contract allows
+
+pub plg-allan-dot-tells : Always 0 plg-allan-dot-kinds.ps plg-allan-dot-kinds.r plg-allan-dot.Post
+    (λ κs args z w. (own : DotAnswer) → allan-dot.Post κs args own (atExit (endedOf 0 allan-dot-kinds.ps allan-dot-kinds.r) κs args w) → z ≡ toldDot own)
+plg-allan-dot-tells κs args z w is own other = is ∙ sym (ap toldDot other)
+
+pub plg-allan-dot-settled : Settled 0 plg-allan-dot-kinds.ps plg-allan-dot-kinds.r plg-allan-dot.Post
+    (λ κs args z w. Refused (z .number) → ToldDotNought z)
+unfolding allanDotAnswer
+plg-allan-dot-settled = (plg-allan-dot-single, λ κs args z w is. rw is (told-dot-noughts _))
+
+pub plg-time-dot-tells : Always 0 plg-time-dot-kinds.ps plg-time-dot-kinds.r plg-time-dot.Post
+    (λ κs args z w. (own : DotAnswer) → time-dot.Post κs args own (atExit (endedOf 0 time-dot-kinds.ps time-dot-kinds.r) κs args w) → z ≡ toldDot own)
+plg-time-dot-tells κs args z w is own other = is ∙ sym (ap toldDot other)
+
+pub plg-time-dot-settled : Settled 0 plg-time-dot-kinds.ps plg-time-dot-kinds.r plg-time-dot.Post
+    (λ κs args z w. Refused (z .number) → ToldDotNought z)
+unfolding timeDotAnswer
+plg-time-dot-settled = (plg-time-dot-single, λ κs args z w is. rw is (told-dot-noughts _))
+
+-- ---- fractions and deviations
+
+pub allan-fraction-settled : Settled 0 allan-fraction-kinds.ps allan-fraction-kinds.r allan-fraction.Post
+    (λ κs args z w. Refused (z .number) → FractionNought z)
+unfolding allanFractionAnswer
+allan-fraction-settled = (allan-fraction-single, λ κs args z w is. rw is (fraction-noughts _ _))
+
+pub time-fraction-settled : Settled 0 time-fraction-kinds.ps time-fraction-kinds.r time-fraction.Post
+    (λ κs args z w. Refused (z .number) → FractionNought z)
+unfolding timeFractionAnswer
+time-fraction-settled = (time-fraction-single, λ κs args z w is. rw is (fraction-noughts _ _))
+
+pub allan-deviation-settled : Settled 0 allan-deviation-kinds.ps allan-deviation-kinds.r allan-deviation.Post
+    (λ κs args z w. Refused (z .number) → DeviationNought z)
+unfolding allanDeviationAnswer
+allan-deviation-settled = (allan-deviation-single, λ κs args z w is. rw is (deviation-noughts _ _))
+
+pub time-deviation-settled : Settled 0 time-deviation-kinds.ps time-deviation-kinds.r time-deviation.Post
+    (λ κs args z w. Refused (z .number) → DeviationNought z)
+unfolding timeDeviationAnswer
+time-deviation-settled = (time-deviation-single, λ κs args z w is. rw is (deviation-noughts _ _))
+
+pub plg-allan-fraction-is : plg-allan-fraction.Post ≡ allan-fraction.Post
+plg-allan-fraction-is = refl
+
+pub plg-allan-fraction-settled : Settled 0 plg-allan-fraction-kinds.ps plg-allan-fraction-kinds.r plg-allan-fraction.Post
+    (λ κs args z w. Refused (z .number) → FractionNought z)
+plg-allan-fraction-settled = allan-fraction-settled
+
+pub plg-time-fraction-is : plg-time-fraction.Post ≡ time-fraction.Post
+plg-time-fraction-is = refl
+
+pub plg-time-fraction-settled : Settled 0 plg-time-fraction-kinds.ps plg-time-fraction-kinds.r plg-time-fraction.Post
+    (λ κs args z w. Refused (z .number) → FractionNought z)
+plg-time-fraction-settled = time-fraction-settled
+
+pub plg-allan-deviation-is : plg-allan-deviation.Post ≡ allan-deviation.Post
+plg-allan-deviation-is = refl
+
+pub plg-allan-deviation-settled : Settled 0 plg-allan-deviation-kinds.ps plg-allan-deviation-kinds.r plg-allan-deviation.Post
+    (λ κs args z w. Refused (z .number) → DeviationNought z)
+plg-allan-deviation-settled = allan-deviation-settled
+
+pub plg-time-deviation-is : plg-time-deviation.Post ≡ time-deviation.Post
+plg-time-deviation-is = refl
+
+pub plg-time-deviation-settled : Settled 0 plg-time-deviation-kinds.ps plg-time-deviation-kinds.r plg-time-deviation.Post
+    (λ κs args z w. Refused (z .number) → DeviationNought z)
+plg-time-deviation-settled = time-deviation-settled
+
+-- ---- noise types and bars
+
+pub noise-type-settled : Settled 0 noise-type-kinds.ps noise-type-kinds.r noise-type.Post
+    (λ κs args z w. Refused (z .number) → NoiseNought z)
+unfolding typeAnswer
+noise-type-settled = (noise-type-single, λ κs args z w is. rw is (noise-noughts _ _))
+
+pub noise-of-record-settled : Settled 1 noise-of-record-kinds.ps noise-of-record-kinds.r noise-of-record.Post
+    (λ κs args z w. Refused (z .number) → NoiseNought z)
+unfolding recordTypeAnswer
+noise-of-record-settled = (noise-of-record-single, λ κs args z w is. rw is (noise-noughts _ _))
+
+pub bars-settled : Settled 0 bars-kinds.ps bars-kinds.r bars.Post
+    (λ κs args z w. Refused (z .number) → BarsNought z)
+bars-settled = (bars-single, λ κs args z w is. rw is (bars-noughts _ _ _))
+
+-- C has no enum: a noise type is told as its alpha, and bars take an alpha
+
+pub plg-noise-type-tells : Always 0 plg-noise-type-kinds.ps plg-noise-type-kinds.r plg-noise-type.Post
+    (λ κs args z w. (own : NoiseAnswer) → noise-type.Post κs args own (atExit (endedOf 0 noise-type-kinds.ps noise-type-kinds.r) κs args w) → z ≡ toldNoise own)
+plg-noise-type-tells κs args z w is own other = is ∙ sym (ap toldNoise other)
+
+pub plg-noise-type-settled : Settled 0 plg-noise-type-kinds.ps plg-noise-type-kinds.r plg-noise-type.Post
+    (λ κs args z w. Refused (z .number) → ToldNoiseNought z)
+plg-noise-type-settled = (plg-noise-type-single, λ κs args z w is. rw is (told-noise-noughts _))
+
+pub plg-noise-of-record-tells : Always 1 plg-noise-of-record-kinds.ps plg-noise-of-record-kinds.r plg-noise-of-record.Post
+    (λ κs args z w. (own : NoiseAnswer) → noise-of-record.Post κs args own (atExit (endedOf 1 noise-of-record-kinds.ps noise-of-record-kinds.r) κs args w) → z ≡ toldNoise own)
+plg-noise-of-record-tells κs args z w is own other = is ∙ sym (ap toldNoise other)
+
+pub plg-noise-of-record-settled : Settled 1 plg-noise-of-record-kinds.ps plg-noise-of-record-kinds.r plg-noise-of-record.Post
+    (λ κs args z w. Refused (z .number) → ToldNoiseNought z)
+plg-noise-of-record-settled = (plg-noise-of-record-single, λ κs args z w is. rw is (told-noise-noughts _))
+
+pub plg-bars-settled : Settled 0 plg-bars-kinds.ps plg-bars-kinds.r plg-bars.Post
+    (λ κs args z w. Refused (z .number) → BarsNought z)
+plg-bars-settled = (plg-bars-single, λ κs args z w is. rw is (alpha-bars-noughts _ _ _))

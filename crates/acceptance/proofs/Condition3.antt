@@ -1,0 +1,99 @@
+-- Condition 3: the running meter equals the formula. A trace (crates/meter/proofs/Trace.antt) is any sequence of starts, samples, reports and refused
+-- calls, each given the meter as the call before gave it back and lent its own ring, and each step is what the function's own contract allows.
+-- Trace x ring m h: x is the meter that the latest call gave back, ring its own ring as it was left, m the factor of the latest accepted start (nought
+-- before the first), and h the samples accepted since. Starts, Samples and Reports are one call by its contract. The exported calls have the same
+-- contracts (Condition1.antt, plg-meter-start-is, plg-meter-sample-is, plg-meter-report-is).
+use mathlib.Core.Path.{_≡_}
+use mathlib.Core.List.{List}
+use Prim.Native.Nat.{ℕ, _+_, _-_, _*_, _^_, _≤_, _<_}
+use lib.IntN.{ℤ, pos, natAbs, _+ℤ_, _*ℤ_}
+use lib.ListN.{length}
+use Rattle.laws.specs.Lists.{at}
+use Rattle.record.proofs.RangeLaws.{bounded-sample}
+use Rattle.sums.specs.Published.{allanSum, modifiedSum}
+use Rattle.sums.proofs.Shifted.{Shifted, shifted-allan-sum, shifted-modified-sum}
+use Rattle.meter.specs.Meter.{slot}
+use Rattle.meter.specs.declared.Meter.{Meter}
+use Rattle.meter.specs.declared.MeterAnswer.{MeterAnswer}
+use Rattle.meter.specs.declared.Report.{Report}
+use Rattle.meter.proofs.Trace.{Starts, Samples, Reports, Trace}
+use Rattle.meter.proofs.AnyCalls.{started-factor, reports-published, takes-every-start, takes-every-sample, shifted-streams-agree, refused-start-changes-nothing, refused-sample-changes-nothing}
+use Rattle.meter.proofs.LatestOnly.{answers, only-read-slots-matter, same-latest-same-answers, same-samples-same-answers}
+use Rattle.acceptance.specs.Noughts.{Refused}
+use Rattle.acceptance.specs.Promises.{ReportOf}
+use Rattle.acceptance.proofs.PromiseLaws.{report-of}
+
+-- ---- the report
+
+-- After any sequence of calls, once started, the report is A with n-2m and B with n-3m+1, worked directly over every sample accepted since the latest
+-- accepted start; each apart, or 1 for the one that is not yet due.
+pub report-is-published : {x : Meter} {ring accepted : List ℤ} {m : ℕ} → Trace x ring m accepted → 1 ≤ m → {z : Report} → Reports x z → ReportOf m accepted z
+report-is-published trace started call = rw (reports-published trace started call) (report-of _ _)
+
+-- An accepted start has a factor of at least 1, so that "once started" is 1 ≤ m.
+pub once-started : {x : Meter} {m : ℕ} {ring : List ℤ} {z : MeterAnswer} → Starts x m ring z → z .number ≡ 0 → 1 ≤ m
+once-started call accepted = started-factor call accepted
+
+-- ---- what is taken
+
+-- No start at a factor from 1 to 10,922 is refused if its ring has 3m entries or more.
+pub every-start-is-taken : {x : Meter} {m : ℕ} {ring : List ℤ} {z : MeterAnswer} → Starts x m ring z → 1 ≤ m → m ≤ 10922 → 3 * m ≤ length ring → z .number ≡ 0
+every-start-is-taken call least most long = takes-every-start call least most long
+
+-- Once started and until 32,768 are in, no sample from -2^40 to 2^40 is refused.
+pub every-sample-is-taken : {x : Meter} {ring accepted : List ℤ} {m : ℕ} → Trace x ring m accepted → 1 ≤ m → length accepted < 32768 →
+    {left : List ℤ} {v : ℤ} {z : MeterAnswer} → Samples x ring v z left → natAbs v ≤ 2 ^ 40 → z .number ≡ 0
+every-sample-is-taken trace started room {v = v} call inside = takes-every-sample trace started call (bounded-sample v inside) room
+
+-- ---- shifted streams
+
+-- Two streams at one factor that differ by a whole offset plus a whole rate times the sample's number, all accepted in both, get equal reports, and
+-- the published sums of the two are equal.
+pub shifted-streams : {x x′ : Meter} {ring ring′ accepted accepted′ : List ℤ} {m : ℕ} → Trace x ring m accepted → Trace x′ ring′ m accepted′ → 1 ≤ m →
+    (offset rate : ℤ) → length accepted′ ≡ length accepted →
+    ((i : ℕ) → i < length accepted → at accepted′ i ≡ at accepted i +ℤ (offset +ℤ rate *ℤ pos i)) →
+    {z z′ : Report} → Reports x z → Reports x′ z′ →
+    (z′ ≡ z) × ReportOf m accepted z × (allanSum m accepted′ ≡ allanSum m accepted) × (modifiedSum m accepted′ ≡ modifiedSum m accepted)
+shifted-streams {m = m} trace trace′ started offset rate same moved call call′ =
+    let shifted : Shifted offset rate _ _ = record { same-length = same; moved = moved } in (
+      shifted-streams-agree trace trace′ started shifted call call′,
+      report-is-published trace started call,
+      shifted-allan-sum shifted m,
+      shifted-modified-sum shifted m,
+    )
+
+-- ---- refused calls
+
+-- A refused start gives the meter back as it came; the ring is lent to it for reading alone.
+pub refused-start : {x : Meter} {m : ℕ} {ring : List ℤ} {z : MeterAnswer} → Starts x m ring z → Refused (z .number) → z .meter ≡ x
+refused-start call refused = refused-start-changes-nothing call refused
+
+-- A refused sample gives the meter back as it came and leaves the ring as it was.
+pub refused-sample : {x : Meter} {ring left : List ℤ} {v : ℤ} {z : MeterAnswer} → Samples x ring v z left → Refused (z .number) →
+    (z .meter ≡ x) × (left ≡ ring)
+refused-sample call refused = refused-sample-changes-nothing call refused
+
+-- ---- only the latest 3m samples matter
+
+-- A sample call answers the same of two rings that agree on the slots of samples n-m and n-2m from n = 2m on, and of n-3m from n = 3m on.
+pub only-slots-that-are-read : {x : Meter} {ring ring′ left left′ : List ℤ} {v : ℤ} {z z′ : MeterAnswer} →
+    3 * x .m ≤ length ring → 3 * x .m ≤ length ring′ →
+    (2 * x .m ≤ x .n → slot x ring (x .n - x .m) ≡ slot x ring′ (x .n - x .m)) →
+    (2 * x .m ≤ x .n → slot x ring (x .n - 2 * x .m) ≡ slot x ring′ (x .n - 2 * x .m)) →
+    (3 * x .m ≤ x .n → slot x ring (x .n - 3 * x .m) ≡ slot x ring′ (x .n - 3 * x .m)) →
+    Samples x ring v z left → Samples x ring′ v z′ left′ → z ≡ z′
+only-slots-that-are-read long long′ once twice thrice =
+    only-read-slots-matter (record { long = long; long′ = long′; once = once; twice = twice; thrice = thrice })
+
+-- All later samples are answered the same if the rings agree on the slots of the latest 3m samples, or of all while there are fewer.
+pub only-the-latest : (x : Meter) (ring ring′ : List ℤ) → 1 ≤ x .m → 3 * x .m ≤ length ring → 3 * x .m ≤ length ring′ →
+    ((k : ℕ) → k < x .n → x .n ≤ k + 3 * x .m → slot x ring k ≡ slot x ring′ k) →
+    (later : List ℤ) → answers x ring later ≡ answers x ring′ later
+only-the-latest x ring ring′ least long long′ kept =
+    same-latest-same-answers x ring ring′ (record { factor-least = least; long = long; long′ = long′; kept = kept })
+
+-- Two meters that were started at one factor and have accepted the same samples since are equal, and answer all later samples the same, whatever calls
+-- came before and whatever else stands in their rings.
+pub same-samples : {x x′ : Meter} {ring ring′ accepted : List ℤ} {m : ℕ} → Trace x ring m accepted → Trace x′ ring′ m accepted → 1 ≤ m →
+    (x ≡ x′) × ((later : List ℤ) → answers x ring later ≡ answers x′ ring′ later)
+same-samples trace trace′ started = same-samples-same-answers trace trace′ started

@@ -1,0 +1,237 @@
+-- Beside a refusal every other value of an answer is nought, and a lent buffer is as it came; the entries past an output are never changed.
+use mathlib.Core.Path.{_≡_, refl}
+use mathlib.Core.Bool.{Bool, true, false, cond}
+use mathlib.Core.List.{List}
+use Prim.Native.Nat.{ℕ, zero, suc, _≤_, _+_, _-_, _*_, _%_}
+use native.Mathlib.Omega.{arith}
+use lib.Dec.{leb, eqb}
+use lib.Ieee.{Float}
+use lib.IntN.{ℤ, pos, negsuc}
+use lib.ListN.{length, getD, set}
+use lib.Seq.{getD-set-other}
+use Rattle.laws.specs.Lists.{written}
+use borrow.Author.Tests.{ne-eqb}
+use Rattle.laws.proofs.ListLaws.{written-past}
+use Rattle.record.specs.Answers.{countAnswer, bufferLeft}
+use Rattle.wide.specs.Wide.{value}
+use Rattle.record.specs.declared.Refusal.{Refusal}
+use Rattle.record.specs.declared.CountAnswer.{CountAnswer}
+use Rattle.record.proofs.AnswerLaws.{past-unchanged}
+use Rattle.sums.specs.Published.{allanSum, allanCount, modifiedSum, modifiedCount}
+use Rattle.sums.specs.Answers.{sumAnswer, partOf, noPart}
+use Rattle.drift.specs.Drift.{driftRefusal, driftAnswer}
+use Rattle.readings.specs.Readings.{samplesOf}
+use Rattle.readings.proofs.RefusalLaws.{samples-length}
+use Rattle.readings.specs.Answers.{floatRefusal, floatAnswer, floatBuffer}
+use Rattle.readings.specs.declared.FloatSums.{FloatSums}
+use Rattle.meter.specs.Meter.{holdsTogether, ringWith}
+use Rattle.meter.specs.Answers.{meterAnswer, sampleRefusal, sampleAnswer, ringLeft, reportAnswer}
+use Rattle.meter.specs.declared.Meter.{Meter}
+use Rattle.meter.specs.declared.Report.{Report}
+use Rattle.phr.specs.Reading.{readRefusal, readAnswer, readBuffer, kindOf, valuesOf, countOf}
+use Rattle.phr.proofs.ReadCases.{values-of-length}
+use Rattle.phr.specs.declared.ReadAnswer.{ReadAnswer}
+use Rattle.plot.specs.Drawn.{drawnRefusal, drawnAnswer}
+use Rattle.plot.specs.Dots.{dotNumber, dotValue, dotAnswer}
+use Rattle.ploegelster.specs.Boundary.{dotKind, toldDot}
+use Rattle.variances.specs.declared.DeviationAnswer.{DeviationAnswer}
+use Rattle.acceptance.specs.Noughts.{Refused, CountNought, ReadNought, SumNought, PartValuesNought, FloatNought, ReportNought, DriftNought, DrawnNought, DotNought, ToldDotNought}
+use Rattle.variances.specs.Fractions.{Fraction}
+use Rattle.variances.specs.Answers.{fractionAnswer, deviationAnswer}
+use Rattle.noise.specs.Noise.{noiseAnswer}
+use Rattle.noise.specs.Bars.{noBar, barsRefusal, barsAnswer}
+use Rattle.noise.specs.declared.Noise.{Noise}
+use Rattle.noise.specs.declared.NoiseAnswer.{NoiseAnswer}
+use Rattle.ploegelster.specs.Boundary.{toldNoise, noSuchType, barsByAlpha}
+use Rattle.acceptance.specs.Noughts.{FractionNought, DeviationNought, NoiseNought, ToldNoiseNought, BarsNought}
+
+-- ---- a count and its buffer
+
+-- an answer that has a number has it from a refusal that has one: what follows where the answer's number is nought if the refusal's is
+by-refusal : (r : Refusal) {number : ℕ} → (r .number ≡ 0 → number ≡ 0) → Refused number → eqb (r .number) 0 ≡ false
+by-refusal r answered some = ne-eqb (r .number) 0 (λ nothing. some (answered nothing))
+
+module _ {A : Type 0} (r : Refusal) (n : ℕ) (out buffer : List A) where
+  pub count-noughts : Refused (countAnswer r n .number) → CountNought (countAnswer r n) × (bufferLeft r out buffer ≡ buffer)
+  unfolding countAnswer bufferLeft
+  count-noughts some = rw (by-refusal r (λ nothing. rw nothing) some) (refl, refl)
+
+  -- the answer's count is how many entries are written, nought where the call is refused
+  pub past-the-count : length out ≡ n → (i : ℕ) (e : A) → countAnswer r n .count ≤ i → getD (bufferLeft r out buffer) i e ≡ getD buffer i e
+  unfolding countAnswer bufferLeft
+  past-the-count whole i e = by-number (eqb (r .number) 0)
+    where
+      by-number : (t : Bool) → cond {A = CountAnswer} t (record { number = 0; place = 0; count = n }) (record { number = r .number; place = r .place; count = 0 }) .count ≤ i →
+          getD (cond t (written out buffer) buffer) i e ≡ getD buffer i e
+      by-number true past = written-past out buffer i e (omega (arith, whole))
+      by-number false past = refl
+
+-- ---- a file that is read
+
+module _ (bytes : List ℕ) (buffer : List ℤ) where
+  pub read-noughts : Refused (readAnswer bytes (length buffer) .number) → ReadNought (readAnswer bytes (length buffer)) × (readBuffer bytes buffer ≡ buffer)
+  unfolding readAnswer bufferLeft
+  read-noughts some = rw (by-refusal (readRefusal bytes (length buffer)) (λ nothing. rw nothing) some) ((refl, refl), refl)
+
+  pub past-the-values : (i : ℕ) (e : ℤ) → readAnswer bytes (length buffer) .count ≤ i → getD (readBuffer bytes buffer) i e ≡ getD buffer i e
+  unfolding readAnswer bufferLeft
+  past-the-values i e = by-number (eqb (r .number) 0)
+    where
+      r : Refusal
+      r = readRefusal bytes (length buffer)
+
+      by-number : (t : Bool) →
+          cond {A = ReadAnswer} t (record { number = 0; place = 0; kind = kindOf bytes; count = countOf bytes })
+          (record { number = r .number; place = r .place; kind = 0; count = 0 }) .count ≤ i →
+          getD (cond t (written (valuesOf bytes) buffer) buffer) i e ≡ getD buffer i e
+      by-number true past = written-past (valuesOf bytes) buffer i e (omega (arith, values-of-length bytes))
+      by-number false past = refl
+
+-- ---- sums and answers of two parts
+
+pub sum-noughts : (r : Refusal) (s count : ℕ) → Refused (sumAnswer r s count .number) → SumNought (sumAnswer r s count)
+unfolding sumAnswer
+sum-noughts r s count some = rw (by-refusal r (λ nothing. rw nothing) some) (refl, refl, refl)
+
+pub part-noughts : (due : Bool) (s count : ℕ) → Refused (partOf due s count .number) → PartValuesNought (partOf due s count)
+unfolding partOf
+part-noughts true s count some = absurd (some refl)
+part-noughts false s count some = (refl, refl, refl)
+
+module _ (m : ℕ) (xs : List Float) (buffer : List ℤ) where
+  pub float-noughts : Refused (floatAnswer m xs (length buffer) .number) → FloatNought (floatAnswer m xs (length buffer)) × (floatBuffer m xs buffer ≡ buffer)
+  unfolding floatAnswer bufferLeft noPart
+  float-noughts some =
+      rw (by-refusal (floatRefusal m xs (length buffer)) (λ nothing. rw nothing) some) (((refl, (refl, refl, refl)), (refl, (refl, refl, refl))), refl)
+
+  -- a 1 for one part alone
+  pub float-part-noughts : (Refused (floatAnswer m xs (length buffer) .allan .number) → PartValuesNought (floatAnswer m xs (length buffer) .allan))
+      × (Refused (floatAnswer m xs (length buffer) .modified .number) → PartValuesNought (floatAnswer m xs (length buffer) .modified))
+  unfolding floatAnswer noPart
+  float-part-noughts = by-number (eqb (r .number) 0)
+    where
+      r : Refusal
+      r = floatRefusal m xs (length buffer)
+
+      answer : Bool → FloatSums
+      answer t =
+          cond t
+          (record {
+            number = 0;
+            place = 0;
+            allan = partOf true (allanSum m (samplesOf xs)) (allanCount m (samplesOf xs));
+            modified = partOf (leb (3 * m) (length xs)) (modifiedSum m (samplesOf xs)) (modifiedCount m (samplesOf xs));
+          })
+          (record { number = r .number; place = r .place; allan = noPart; modified = noPart })
+
+      by-number : (t : Bool) → (Refused (answer t .allan .number) → PartValuesNought (answer t .allan))
+          × (Refused (answer t .modified .number) → PartValuesNought (answer t .modified))
+      by-number true = (part-noughts _ _ _, part-noughts _ _ _)
+      by-number false = (λ some. (refl, refl, refl), λ some. (refl, refl, refl))
+
+  pub past-the-samples : (i : ℕ) (e : ℤ) → length xs ≤ i → getD (floatBuffer m xs buffer) i e ≡ getD buffer i e
+  past-the-samples i e past = past-unchanged _ (samplesOf xs) buffer i e (omega (arith, samples-length xs))
+
+pub report-noughts : (x : Meter) → Refused (reportAnswer x .number) → ReportNought (reportAnswer x)
+unfolding reportAnswer noPart
+report-noughts x some = rw (falls (holdsTogether x) refl) ((refl, (refl, refl, refl)), (refl, (refl, refl, refl)))
+  where
+    falls : (t : Bool) → holdsTogether x ≡ t → t ≡ false
+    falls true e = absurd (some (rw e))
+    falls false e = refl
+
+pub report-part-noughts : (x : Meter) → (Refused (reportAnswer x .allan .number) → PartValuesNought (reportAnswer x .allan))
+    × (Refused (reportAnswer x .modified .number) → PartValuesNought (reportAnswer x .modified))
+unfolding reportAnswer noPart
+report-part-noughts x = by-test (holdsTogether x)
+  where
+    answer : Bool → Report
+    answer t =
+        cond t
+        (record {
+          number = 0;
+          place = 0;
+          allan = partOf (leb (2 * x .m + 1) (x .n)) (value (x .a)) (x .n - 2 * x .m);
+          modified = partOf (leb (3 * x .m) (x .n)) (value (x .b)) (x .n + 1 - 3 * x .m);
+        })
+        (record { number = 7; place = 0; allan = noPart; modified = noPart })
+
+    by-test : (t : Bool) → (Refused (answer t .allan .number) → PartValuesNought (answer t .allan))
+        × (Refused (answer t .modified .number) → PartValuesNought (answer t .modified))
+    by-test true = (part-noughts _ _ _, part-noughts _ _ _)
+    by-test false = (λ some. (refl, refl, refl), λ some. (refl, refl, refl))
+
+-- ---- drift
+
+pub drift-noughts : (xs : List ℤ) → Refused (driftAnswer xs .number) → DriftNought (driftAnswer xs)
+unfolding driftAnswer
+drift-noughts xs some = rw (by-refusal (driftRefusal xs) (λ nothing. rw nothing) some) (refl, refl)
+
+-- ---- meters
+
+pub meter-as-it-came : (r : Refusal) (old new : Meter) → Refused (meterAnswer r old new .number) → meterAnswer r old new .meter ≡ old
+unfolding meterAnswer
+meter-as-it-came r old new some = rw (by-refusal r (λ nothing. rw nothing) some) refl
+
+module _ (x : Meter) (ring : List ℤ) (v : ℤ) where
+  pub ring-as-it-came : Refused (sampleAnswer x ring v .number) → ringLeft x ring v ≡ ring
+  unfolding sampleAnswer meterAnswer ringLeft
+  ring-as-it-came some = rw (by-refusal (sampleRefusal x ring v) (λ nothing. rw nothing) some) refl
+
+  -- no slot but that of sample number n is written
+  pub other-slots-unchanged : (i : ℕ) (e : ℤ) → (i ≡ x .n % (3 * x .m) → ⊥) → getD (ringLeft x ring v) i e ≡ getD ring i e
+  unfolding ringLeft ringWith
+  other-slots-unchanged i e other = by-number (eqb (sampleRefusal x ring v .number) 0)
+    where
+      by-number : (t : Bool) → getD (cond t (set ring (x .n % (3 * x .m)) v) ring) i e ≡ getD ring i e
+      by-number true = getD-set-other ring (x .n % (3 * x .m)) i v e other
+      by-number false = refl
+
+-- ---- what is drawn
+
+pub drawn-noughts : (r : ℕ) → Refused (drawnAnswer r .number) → DrawnNought (drawnAnswer r)
+unfolding drawnAnswer
+drawn-noughts r some = rw (by-refusal (drawnRefusal r) (λ nothing. rw nothing) some) refl
+
+pub dot-noughts : (d : DeviationAnswer) → Refused (dotAnswer d .number) → DotNought (dotAnswer d)
+unfolding dotAnswer dotNumber dotValue
+dot-noughts d some = rw (ne-eqb (d .number) 0 (λ nothing. some (rw nothing)), ne-eqb (d .number) 1 (λ few. some (rw few))) (refl, refl, refl)
+
+-- as C has it
+pub told-dot-noughts : (d : DeviationAnswer) → Refused (toldDot (dotAnswer d) .number) → ToldDotNought (toldDot (dotAnswer d))
+unfolding toldDot dotKind dotValue
+told-dot-noughts d some = rw (dot-noughts d some .0) (refl, refl)
+
+-- ---- fractions and deviations
+
+pub fraction-noughts : (r : Refusal) (f : Fraction) → Refused (fractionAnswer r f .number) → FractionNought (fractionAnswer r f)
+unfolding fractionAnswer
+fraction-noughts r f some = rw (by-refusal r (λ nothing. rw nothing) some) (refl, refl, refl)
+
+pub deviation-noughts : (r : Refusal) (d : ℕ) → Refused (deviationAnswer r d .number) → DeviationNought (deviationAnswer r d)
+unfolding deviationAnswer
+deviation-noughts r d some = rw (by-refusal r (λ nothing. rw nothing) some) refl
+
+-- ---- noise types and bars
+
+pub noise-noughts : (r : Refusal) (t : Noise) → Refused (noiseAnswer r t .number) → NoiseNought (noiseAnswer r t)
+unfolding noiseAnswer
+noise-noughts r t some = rw (by-refusal r (λ nothing. rw nothing) some) refl
+
+pub told-noise-noughts : (a : NoiseAnswer) → Refused (toldNoise a .number) → ToldNoiseNought (toldNoise a)
+unfolding toldNoise
+told-noise-noughts a some = rw (ne-eqb (a .number) 0 some) refl
+
+pub bars-noughts : (r : ℕ) (t : Noise) (m : ℕ) → Refused (barsAnswer r t m .number) → BarsNought (barsAnswer r t m)
+unfolding barsAnswer noBar
+bars-noughts r t m some = rw (by-refusal (barsRefusal r m) (λ nothing. rw nothing) some) (refl, refl, refl, refl)
+
+pub alpha-bars-noughts : (r : ℕ) (alpha : ℤ) (m : ℕ) → Refused (barsByAlpha r alpha m .number) → BarsNought (barsByAlpha r alpha m)
+unfolding barsByAlpha noSuchType noBar
+alpha-bars-noughts r (pos zero) m some = bars-noughts _ _ _ some
+alpha-bars-noughts r (pos (suc zero)) m some = bars-noughts _ _ _ some
+alpha-bars-noughts r (pos (suc (suc zero))) m some = bars-noughts _ _ _ some
+alpha-bars-noughts r (pos (suc (suc (suc n)))) m some = (refl, refl, refl, refl)
+alpha-bars-noughts r (negsuc zero) m some = bars-noughts _ _ _ some
+alpha-bars-noughts r (negsuc (suc zero)) m some = bars-noughts _ _ _ some
+alpha-bars-noughts r (negsuc (suc (suc n))) m some = (refl, refl, refl, refl)
