@@ -15,22 +15,19 @@ use Rattle.laws.specs.Sums.{sum}
 use Rattle.laws.proofs.Single.{Always}
 use Rattle.wide.specs.Wide.{value}
 use Rattle.record.specs.Refusals.{inRange, rangeRefusal, sizeRefusal, recordRefusal}
-use Rattle.record.proofs.RefusalLaws.{Sound, Sized}
 use Rattle.frequency.specs.Frequency.{differences}
 use Rattle.drift.specs.Drift.{withoutDrift}
 use Rattle.sums.specs.Published.{difference, allanCount, allanSum, modifiedSum}
-use Rattle.sums.specs.Answers.{allanDemand, modifiedDemand, sumAnswer, allanSumAnswer}
+use Rattle.sums.specs.Answers.{sumAnswer, allanSumAnswer}
 use Rattle.readings.specs.Readings.{readingNumber}
-use Rattle.phr.specs.File.{fileOf}
-use Rattle.phr.proofs.ByteLaws.{AreBytes}
-use Rattle.phr.proofs.WriteCases.{Writable}
-use Rattle.phr.proofs.RoundTrip.{IsFile}
+use Rattle.phr.specs.File.{fileOf, Proper, IsFile, AreBytes}
 use Rattle.plot.specs.Drawn.{plusZero}
 use Rattle.plot.specs.Dots.{dotNumber, dotValue}
 use Rattle.plot.proofs.DotLaws.{allan-too-few, time-too-few}
 use Rattle.plot.specs.declared.dots.Dot.the-variants.{TooFew}
 use Rattle.acceptance.specs.Figures.{squares}
-use Rattle.acceptance.specs.Promises.{Phasing, Differing, Drifting, SumOf, PhasesOf, DifferencesOf, BackAndForth, DriftOf, DriftRemoved, FloatSumsOf, ReadsBack, DrawnOf, DotOf}
+use Rattle.acceptance.specs.Promises.{InBounds, ReadingsInBounds, SumInBounds, BarInBounds, Phasing, Differing, Drifting, SumOf, PhasesOf, DifferencesOf, BackAndForth, DriftOf, DriftRemoved, FloatSumsOf, ReadsBack, DrawnOf, DotOf}
+use Rattle.acceptance.proofs.BoundLaws.{allan-sound, modified-sound, noise-sound, readings-sized, sum-allowed, bar-barred, proper-writable}
 use Rattle.acceptance.proofs.PromiseLaws.{allan-sum-of, modified-sum-of, phases-of, differences-of, differences-left, back-and-forth, drift-of, drift-removed, reading-refused, float-sums-of, reads-files, file-left, write-answered, reads-back, drawn-of, allan-dot-of, time-dot-of}
 use Rattle.sums.proofs.allan_sum.Reads as allan-sum
 use Rattle.sums.proofs.allan_sum.Kinds as allan-sum-kinds
@@ -62,7 +59,6 @@ use Rattle.variances.specs.Fractions.{euclid, gcd, lowestTerms}
 use Rattle.variances.specs.Deviations.{within}
 use Rattle.variances.specs.Answers.{figureRefusal, fractionAnswer, allanFractionAnswer}
 use Rattle.variances.specs.declared.FractionAnswer.{FractionAnswer}
-use Rattle.variances.proofs.FigureLaws.{Allowed}
 use Rattle.acceptance.specs.Promises.{FractionOf, DeviationOf}
 use Rattle.acceptance.proofs.PromiseLaws.{allan-fraction-of, time-fraction-of, allan-deviation-of, time-deviation-of, allan-deviation-of-record, time-deviation-of-record}
 use Rattle.variances.proofs.allan_fraction.Reads as allan-fraction
@@ -74,8 +70,6 @@ use Rattle.variances.proofs.allan_deviation.Kinds as allan-deviation-kinds
 use Rattle.variances.proofs.time_deviation.Reads as time-deviation
 use Rattle.variances.proofs.time_deviation.Kinds as time-deviation-kinds
 -- noise types and bars
-use Rattle.noise.specs.Noise.{noiseDemand}
-use Rattle.noise.proofs.BarLaws.{Barred}
 use Rattle.acceptance.specs.Promises.{TypeByTable, NoiseOf, BarsOf}
 use Rattle.acceptance.proofs.PromiseLaws.{type-of, no-type-of-nought, noise-of, bars-of}
 use Rattle.noise.proofs.noise_type.Reads as noise-type
@@ -90,16 +84,16 @@ use Rattle.noise.proofs.bars.bars.Kinds as bars-kinds
 -- A record of 2m+1 to 32,768 samples in range, m from 1 to 10,922, is never refused: A is the sum of d_i squared, and K = N-2m.
 pub allan-sum-published : Always 1 allan-sum-kinds.ps allan-sum-kinds.r allan-sum.Post
     (λ κs args z w. let xs = now (args .0) in let m = args .1 .0 in
-    Sound allanDemand m xs →
+    InBounds 10922 (2 * m + 1) m xs →
     SumOf (allanSum m xs) (length xs - 2 * m) z)
-allan-sum-published κs args z w is sound = rw is (allan-sum-of _ _ sound)
+allan-sum-published κs args z w is sound = rw is (allan-sum-of _ _ (allan-sound sound))
 
 -- One of 3m samples or more: B is the sum of S_j squared, and C = N-3m+1.
 pub modified-sum-published : Always 1 modified-sum-kinds.ps modified-sum-kinds.r modified-sum.Post
     (λ κs args z w. let xs = now (args .0) in let m = args .1 .0 in
-    Sound modifiedDemand m xs →
+    InBounds 10922 (3 * m) m xs →
     SumOf (modifiedSum m xs) (length xs - 3 * m + 1) z)
-modified-sum-published κs args z w is sound = rw is (modified-sum-of _ _ sound)
+modified-sum-published κs args z w is sound = rw is (modified-sum-of _ _ (modified-sound sound))
 
 -- ---- phase and frequency
 
@@ -143,34 +137,36 @@ removal-published κs args z w is drifting room results = rw (is .0, is .1) (dri
 -- Where every reading is a sample, each sample has its reading's exact value, and both sums are the published ones of the samples.
 pub float-sums-published : Always 2 float-sums-kinds.ps float-sums-kinds.r float-sums.Post
     (λ κs args z w. let xs = now (args .0) in let m = args .1 .0 in let buffer = now (args .1 .1 .0) in let left = w .1 .1 .0 in
-    Sized allanDemand m (length xs) → length xs ≤ length buffer →
+    ReadingsInBounds m (length xs) (length buffer) →
     ((k : ℕ) → k < length xs → readingNumber (getD xs k nan) ≡ 0) →
     FloatSumsOf m xs left z)
-float-sums-published κs args z w is sized room all = rw (is .0, is .1) (float-sums-of (args .1 .0) (now (args .0)) (now (args .1 .1 .0)) sized room all)
+float-sums-published κs args z w is b all =
+    rw (is .0, is .1) (float-sums-of (args .1 .0) (now (args .0)) (now (args .1 .1 .0)) (readings-sized b) (b .room-enough) all)
 
 -- Else the first reading that is no sample is refused, by its number, at its index. What the number is by the reading's exact value is told by
 -- beyond-the-range, whole-in-range and fraction-in-range (crates/readings/proofs/ReadingLaws.antt).
 pub float-reading-refused : Always 2 float-sums-kinds.ps float-sums-kinds.r float-sums.Post
     (λ κs args z w. let xs = now (args .0) in let m = args .1 .0 in let buffer = now (args .1 .1 .0) in
-    Sized allanDemand m (length xs) → length xs ≤ length buffer →
+    ReadingsInBounds m (length xs) (length buffer) →
     (i : ℕ) → i < length xs → ((k : ℕ) → k < i → readingNumber (getD xs k nan) ≡ 0) →
     (readingNumber (getD xs i nan) ≡ 0 → ⊥) → (z .number ≡ readingNumber (getD xs i nan)) × (z .place ≡ i))
-float-reading-refused κs args z w is sized room i inside before here = rw (is .0) (reading-refused _ _ (now (args .1 .1 .0)) sized room i inside before here)
+float-reading-refused κs args z w is b i inside before here =
+    rw (is .0) (reading-refused _ _ (now (args .1 .1 .0)) (readings-sized b) (b .room-enough) i inside before here)
 
 -- ---- the record file
 
 -- What is written is read: a kind and values that a file may hold are never refused, and reading what the call wrote gives both back.
 pub file-read-of-written : Always 2 write-file-kinds.ps write-file-kinds.r write-file.Post
     (λ κs args z w. let kind = args .0 in let values = now (args .1 .0) in let written = w .1 .1 .0 in
-    Writable kind values (length (now (args .1 .1 .0))) → (z .number ≡ 0) × Always 2 read-file-kinds.ps read-file-kinds.r read-file.Post
+    Proper kind values → 8 + 8 * length values ≤ length (now (args .1 .1 .0)) → (z .number ≡ 0) × Always 2 read-file-kinds.ps read-file-kinds.r read-file.Post
     (λ κs′ args′ z′ w′. let bytes = now (args′ .0) in let buffer = now (args′ .1 .0) in
     bytes ≡ take (z .count) written → length values ≤ length buffer → ReadsBack kind values (w′ .1 .0) z′))
-file-read-of-written κs args z w is writable = (
-  rw (is .0) (write-answered (args .0) (now (args .1 .0)) (now (args .1 .1 .0)) writable),
+file-read-of-written κs args z w is proper enough = (
+  rw (is .0) (write-answered (args .0) (now (args .1 .0)) (now (args .1 .1 .0)) (proper-writable proper enough)),
   λ κs′ args′ z′ w′ is′ read room.
-      let written : now (args′ .0) ≡ fileOf (args .0) (now (args .1 .0)) = read ∙ rw (is .0, is .1) (file-left (args .0) (now (args .1 .0)) (now (args .1 .1 .0)) writable) in
+      let written : now (args′ .0) ≡ fileOf (args .0) (now (args .1 .0)) = read ∙ rw (is .0, is .1) (file-left (args .0) (now (args .1 .0)) (now (args .1 .1 .0)) (proper-writable proper enough)) in
       rw (is′ .0, is′ .1, written)
-      (reads-back (args .0) (now (args .1 .0)) (now (args′ .1 .0)) (record { known = writable .known; few = writable .few; in-range = writable .in-range }) room),
+      (reads-back (args .0) (now (args .1 .0)) (now (args′ .1 .0)) proper room),
 )
 
 -- Bytes are read exactly where they are the file of a kind and of values in range, with room for these.
@@ -189,12 +185,12 @@ drawn-published κs args z w is = rw is (drawn-of _)
 
 -- A dot is drawn from the deviation, or nought; 3 stands.
 pub allan-dot-published : Always 0 allan-dot-kinds.ps allan-dot-kinds.r allan-dot.Post
-    (λ κs args z w. let A = value (args .0) in let m = args .1 .0 in let K = args .1 .1 .0 in Allowed A m K → DotOf A (2 * (m * m) * K) z)
-allan-dot-published κs args z w is allowed = rw is (allan-dot-of _ _ _ allowed)
+    (λ κs args z w. let A = value (args .0) in let m = args .1 .0 in let K = args .1 .1 .0 in SumInBounds A m K → DotOf A (2 * (m * m) * K) z)
+allan-dot-published κs args z w is allowed = rw is (allan-dot-of _ _ _ (sum-allowed allowed))
 
 pub time-dot-published : Always 0 time-dot-kinds.ps time-dot-kinds.r time-dot.Post
-    (λ κs args z w. let B = value (args .0) in let m = args .1 .0 in let C = args .1 .1 .0 in Allowed B m C → DotOf B (6 * (m * m) * C) z)
-time-dot-published κs args z w is allowed = rw is (time-dot-of _ _ _ allowed)
+    (λ κs args z w. let B = value (args .0) in let m = args .1 .0 in let C = args .1 .1 .0 in SumInBounds B m C → DotOf B (6 * (m * m) * C) z)
+time-dot-published κs args z w is allowed = rw is (time-dot-of _ _ _ (sum-allowed allowed))
 
 -- A count of 0 gives too few, whose number is 1.
 pub allan-dot-too-few : Always 0 allan-dot-kinds.ps allan-dot-kinds.r allan-dot.Post
@@ -214,42 +210,42 @@ time-dot-too-few κs args z w is least most none = rw (is, none) (rw (time-too-f
 -- The Allan variance A / (2 m^2 K) in lowest terms.
 pub allan-fraction-published : Always 0 allan-fraction-kinds.ps allan-fraction-kinds.r allan-fraction.Post
     (λ κs args z w. let A = value (args .0) in let m = args .1 .0 in let K = args .1 .1 .0 in
-    Allowed A m K →
+    SumInBounds A m K →
     FractionOf A (2 * (m * m) * K) z)
-allan-fraction-published κs args z w is allowed = rw is (allan-fraction-of _ _ _ allowed)
+allan-fraction-published κs args z w is allowed = rw is (allan-fraction-of _ _ _ (sum-allowed allowed))
 
 -- The time variance B / (6 m^2 C) in lowest terms.
 pub time-fraction-published : Always 0 time-fraction-kinds.ps time-fraction-kinds.r time-fraction.Post
     (λ κs args z w. let B = value (args .0) in let m = args .1 .0 in let C = args .1 .1 .0 in
-    Allowed B m C →
+    SumInBounds B m C →
     FractionOf B (6 * (m * m) * C) z)
-time-fraction-published κs args z w is allowed = rw is (time-fraction-of _ _ _ allowed)
+time-fraction-published κs args z w is allowed = rw is (time-fraction-of _ _ _ (sum-allowed allowed))
 
 -- The deviation of A / (2 m^2 K), and of B / (6 m^2 C).
 pub allan-deviation-published : Always 0 allan-deviation-kinds.ps allan-deviation-kinds.r allan-deviation.Post
     (λ κs args z w. let A = value (args .0) in let m = args .1 .0 in let K = args .1 .1 .0 in
-    Allowed A m K →
+    SumInBounds A m K →
     DeviationOf A (2 * (m * m) * K) z)
-allan-deviation-published κs args z w is allowed = rw is (allan-deviation-of _ _ _ allowed)
+allan-deviation-published κs args z w is allowed = rw is (allan-deviation-of _ _ _ (sum-allowed allowed))
 
 pub time-deviation-published : Always 0 time-deviation-kinds.ps time-deviation-kinds.r time-deviation.Post
     (λ κs args z w. let B = value (args .0) in let m = args .1 .0 in let C = args .1 .1 .0 in
-    Allowed B m C →
+    SumInBounds B m C →
     DeviationOf B (6 * (m * m) * C) z)
-time-deviation-published κs args z w is allowed = rw is (time-deviation-of _ _ _ allowed)
+time-deviation-published κs args z w is allowed = rw is (time-deviation-of _ _ _ (sum-allowed allowed))
 
 -- No record within the bounds brings about the answer 3: with the sum and the count of such a record the deviation is given.
 pub allan-deviation-of-every-record : Always 0 allan-deviation-kinds.ps allan-deviation-kinds.r allan-deviation.Post
     (λ κs args z w. let A = value (args .0) in let m = args .1 .0 in let K = args .1 .1 .0 in
-    (xs : List ℤ) → Sound allanDemand m xs → A ≡ allanSum m xs → K ≡ length xs - 2 * m →
+    (xs : List ℤ) → InBounds 10922 (2 * m + 1) m xs → A ≡ allanSum m xs → K ≡ length xs - 2 * m →
     (z .number ≡ 0) × Greatest (within (allanSum m xs) (2 * (m * m) * (length xs - 2 * m))) (z .deviation))
-allan-deviation-of-every-record κs args z w is xs sound total count = rw (is, total, count) (allan-deviation-of-record _ xs sound)
+allan-deviation-of-every-record κs args z w is xs sound total count = rw (is, total, count) (allan-deviation-of-record _ xs (allan-sound sound))
 
 pub time-deviation-of-every-record : Always 0 time-deviation-kinds.ps time-deviation-kinds.r time-deviation.Post
     (λ κs args z w. let B = value (args .0) in let m = args .1 .0 in let C = args .1 .1 .0 in
-    (xs : List ℤ) → Sound modifiedDemand m xs → B ≡ modifiedSum m xs → C ≡ length xs - 3 * m + 1 →
+    (xs : List ℤ) → InBounds 10922 (3 * m) m xs → B ≡ modifiedSum m xs → C ≡ length xs - 3 * m + 1 →
     (z .number ≡ 0) × Greatest (within (modifiedSum m xs) (6 * (m * m) * (length xs - 3 * m + 1))) (z .deviation))
-time-deviation-of-every-record κs args z w is xs sound total count = rw (is, total, count) (time-deviation-of-record _ xs sound)
+time-deviation-of-every-record κs args z w is xs sound total count = rw (is, total, count) (time-deviation-of-record _ xs (modified-sound sound))
 
 -- ---- noise types and bars
 
@@ -262,13 +258,13 @@ noise-type-published κs args z w is first second = rw is (type-of _ _ first sec
 
 -- From a record: r1 and r2 are its time deviations at m and 2m.
 pub noise-of-record-published : Always 1 noise-of-record-kinds.ps noise-of-record-kinds.r noise-of-record.Post
-    (λ κs args z w. let xs = now (args .0) in let m = args .1 .0 in Sound noiseDemand m xs → NoiseOf m xs z)
-noise-of-record-published κs args z w is sound = rw is (noise-of _ _ sound)
+    (λ κs args z w. let xs = now (args .0) in let m = args .1 .0 in InBounds 5461 (6 * m) m xs → NoiseOf m xs z)
+noise-of-record-published κs args z w is sound = rw is (noise-of _ _ (noise-sound sound))
 
 -- r from 1 to 2^62 and M from 10 to 32,767.
 pub bars-published : Always 0 bars-kinds.ps bars-kinds.r bars.Post
-    (λ κs args z w. let r = args .0 in let type = args .1 .0 in let M = args .1 .1 .0 in Barred r M → BarsOf r type M z)
-bars-published κs args z w is barred = rw is (bars-of _ _ _ barred)
+    (λ κs args z w. let r = args .0 in let type = args .1 .0 in let M = args .1 .1 .0 in BarInBounds r M → BarsOf r type M z)
+bars-published κs args z w is barred = rw is (bars-of _ _ _ (bar-barred barred))
 
 -- ---- the starred record 0 1 4 9 16 25 at m = 1: refusing everything, or giving 0/1 always, is shut out
 

@@ -37,14 +37,13 @@ use Rattle.readings.specs.declared.FloatSums.{FloatSums}
 use Rattle.readings.proofs.ReadingLaws.{sample-exact}
 use Rattle.readings.proofs.RefusalLaws.{isSample, no-sample-at, all-samples, samples-length, sample-at, readings-decide, samples-taken}
 use Rattle.meter.specs.Answers.{publishedReport}
-use Rattle.phr.specs.File.{fileOf}
+use Rattle.phr.specs.File.{fileOf, Proper, IsFile, AreBytes}
 use Rattle.phr.specs.Reading.{readRefusal, readAnswer, readBuffer, kindOf, countOf, valuesOf, rightLength}
 use Rattle.phr.specs.Writing.{writeRefusal}
 use Rattle.phr.specs.declared.ReadAnswer.{ReadAnswer}
-use Rattle.phr.proofs.ByteLaws.{AreBytes}
 use Rattle.phr.proofs.ReadCases.{readable-none, unrefused-readable}
 use Rattle.phr.proofs.WriteCases.{Writable, writable-none}
-use Rattle.phr.proofs.RoundTrip.{Proper, IsFile, accepted-exactly, buffer-has-file, file-is-read, file-answer, values-come-back}
+use Rattle.phr.proofs.RoundTrip.{accepted-exactly, buffer-has-file, file-is-read, file-answer, values-come-back}
 use Rattle.plot.specs.Drawn.{drawnAnswer}
 use Rattle.plot.specs.Dots.{dotNumber, dotValue, dotAnswer, allanDotAnswer, timeDotAnswer}
 use Rattle.plot.specs.declared.drawn.DrawnAnswer.{DrawnAnswer}

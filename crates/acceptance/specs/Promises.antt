@@ -19,7 +19,7 @@ use Rattle.sums.specs.Published.{difference, allanSum, modifiedSum}
 use Rattle.sums.specs.declared.SumAnswer.{SumAnswer}
 use Rattle.sums.specs.declared.Part.{Part}
 use Rattle.readings.specs.declared.FloatSums.{FloatSums}
-use Rattle.readings.proofs.ReadingLaws.{Exactly}
+use Rattle.readings.specs.Readings.{Exactly}
 use Rattle.meter.specs.declared.Report.{Report}
 use Rattle.phr.specs.declared.ReadAnswer.{ReadAnswer}
 use Rattle.plot.specs.Drawn.{plusZero, GreatestDouble}
@@ -34,6 +34,39 @@ use Rattle.noise.specs.Noise.{alphaOf, kappaOf}
 use Rattle.noise.specs.declared.Noise.{Noise}
 use Rattle.noise.specs.declared.NoiseAnswer.{NoiseAnswer}
 use Rattle.noise.specs.declared.bars.BarsAnswer.{BarsAnswer}
+
+-- ---- the bounds within which a figure is promised
+
+-- a record at factor m: m from 1 to the largest, at least the fewest samples and at most 32,768, each in range
+pub record InBounds (largest fewest m : ℕ) (xs : List ℤ) : Type 0 where
+  pub factor-least : 1 ≤ m
+  pub factor-most : m ≤ largest
+  pub enough : fewest ≤ length xs
+  pub few : length xs ≤ 32768
+  pub in-range : (k : ℕ) → k < length xs → inRange (at xs k) ≡ true
+
+-- n float readings at factor m, with room for their samples
+pub record ReadingsInBounds (m n room : ℕ) : Type 0 where
+  pub factor-least : 1 ≤ m
+  pub factor-most : m ≤ 10922
+  pub enough : 2 * m + 1 ≤ n
+  pub few : n ≤ 32768
+  pub room-enough : n ≤ room
+
+-- a sum with its factor and count
+pub record SumInBounds (sum m count : ℕ) : Type 0 where
+  pub factor-least : 1 ≤ m
+  pub factor-most : m ≤ 10922
+  pub count-least : 1 ≤ count
+  pub count-most : count ≤ 32768
+  pub sum-below : sum < 2 ^ 126
+
+-- a deviation with its number of intervals, for bars
+pub record BarInBounds (r m : ℕ) : Type 0 where
+  pub some : 1 ≤ r
+  pub most : r ≤ 2 ^ 62
+  pub enough : 10 ≤ m
+  pub few : m ≤ 32767
 
 -- ---- sums
 

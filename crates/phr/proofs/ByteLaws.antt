@@ -10,6 +10,7 @@ use lib.Seq.{getD-drop, length-take-le, take-at, drop-at, drop-drop, sets, sets-
 use Rattle.laws.specs.Lists.{written, tabulate}
 use Rattle.laws.proofs.Halves.{high-part-below}
 use Rattle.phr.specs.Bytes.{lowFirst, fromLowFirst}
+use Rattle.phr.specs.File.{AreBytes}
 
 -- ---- a buffer that is written from a place on
 
@@ -46,10 +47,6 @@ front-entries (suc n) [] z h = absurd (omega arith)
 front-entries (suc n) (x ∷ xs) z h = ap (λ t. x ∷ t) (front-entries n xs z (omega arith))
 
 -- ---- lists of bytes
-
--- each entry is a byte; past the end stands nought, which is one too
-abbrev pub AreBytes : List ℕ → Type 0
-AreBytes bytes = (i : ℕ) → getD bytes i 0 < 256
 
 pub bytes-taken : (n : ℕ) (bytes : List ℕ) → AreBytes bytes → AreBytes (take n bytes)
 bytes-taken zero bytes all i = omega arith

@@ -17,10 +17,10 @@ use Rattle.record.specs.Answers.{bufferLeft}
 use Rattle.record.specs.Refusals.{none}
 use Rattle.record.specs.declared.Refusal.{Refusal}
 use Rattle.phr.specs.Bytes.{lowFirst, valueBytes, valuesBytes, valueAt}
-use Rattle.phr.specs.File.{header, fileOf, mostValues, valueInRange}
+use Rattle.phr.specs.File.{header, fileOf, mostValues, valueInRange, Proper, IsFile, AreBytes}
 use Rattle.phr.specs.Reading.{headerTests, soundUpTo, kindOf, countOf, rightLength, valuesFrom, valuesOf, readRefusal, readAnswer}
 use Rattle.phr.specs.Writing.{writeRefusal}
-use Rattle.phr.proofs.ByteLaws.{front-entries, AreBytes, low-first-bytes, bytes-more, bytes-joined}
+use Rattle.phr.proofs.ByteLaws.{front-entries, low-first-bytes, bytes-more, bytes-joined}
 use Rattle.phr.proofs.HeaderLaws.{passed-before}
 use Rattle.phr.proofs.RangeCases.{in-range-fits}
 use Rattle.phr.proofs.ReadCases.{Readable, readable-none, unrefused-readable, values-of-length, sound-within, most-values-bounded}
@@ -37,12 +37,6 @@ pub value-between-comes-back : (before after : List ℕ) (z : ℤ) → SFits w64
 value-between-comes-back before after z fits = value-back before after (length before) z refl fits
 
 -- ---- what was written is read
-
--- a kind and values that a file may hold
-pub record Proper (kind : ℕ) (values : List ℤ) : Type 0 where
-  pub known : kind ≤ 1
-  pub few : length values ≤ mostValues kind
-  pub in-range : (i : ℕ) → i < length values → valueInRange kind (at values i) ≡ true
 
 -- every byte of a file is below 256
 pub file-bytes : (kind : ℕ) (values : List ℤ) → kind ≤ 1 → AreBytes (fileOf kind values)
@@ -157,14 +151,6 @@ module _ (bytes : List ℕ) (all : AreBytes bytes) (room : ℕ) (accepted : read
   }
 
 -- ---- so reading accepts files and nothing else
-
--- the bytes are the file of some kind and of values that a file may hold, with room for them
-pub record IsFile (bytes : List ℕ) (room : ℕ) : Type 0 where
-  pub kind : ℕ
-  pub values : List ℤ
-  pub proper : Proper kind values
-  pub enough : length values ≤ room
-  pub same : bytes ≡ fileOf kind values
 
 -- bytes are read with room for so many values exactly where they are such a file
 pub accepted-exactly : (bytes : List ℕ) (room : ℕ) → AreBytes bytes → (readRefusal bytes room ≡ none → IsFile bytes room) × (IsFile bytes room → readRefusal bytes room ≡ none)

@@ -15,7 +15,8 @@ use Rattle.laws.specs.Lists.{at, tabulate}
 use Rattle.laws.proofs.ListLaws.{tabulate-length, tabulate-entry, tabulate-equal}
 use Rattle.phr.specs.Bytes.{lowFirst, fromLowFirst, twosComplement, signed, valueBytes, valuesBytes, valueAt}
 use Rattle.phr.specs.Reading.{valuesFrom}
-use Rattle.phr.proofs.ByteLaws.{writtenFrom, written-from-none, written-from-next, stores-from, AreBytes, bytes-taken, bytes-dropped, bytes-joined, low-first-length, low-first-bytes, low-first-back, from-low-first-below, from-low-first-back, from-low-first-append}
+use Rattle.phr.specs.File.{AreBytes}
+use Rattle.phr.proofs.ByteLaws.{writtenFrom, written-from-none, written-from-next, stores-from, bytes-taken, bytes-dropped, bytes-joined, low-first-length, low-first-bytes, low-first-back, from-low-first-below, from-low-first-back, from-low-first-append}
 use Rattle.phr.proofs.SignLaws.{twos-complement-below, twos-complement-back, signed-back, signed-fits, loaded-value}
 
 -- ---- the number that bytes from a place on make

@@ -14,7 +14,7 @@ use lib.Ieee.Exact.{HasValue}
 use lib.ListN.{length, getD}
 use Rattle.laws.proofs.Tests.{choice-true, choice-false, tests-agree}
 use Rattle.laws.proofs.ListLaws.{passes-before, fails-there}
-use Rattle.readings.specs.Readings.{readingNumber, sampleOf, firstBad}
+use Rattle.readings.specs.Readings.{readingNumber, sampleOf, firstBad, Exactly}
 use Rattle.readings.proofs.FloatTests.{sample-within, within-by-fraction, signed-size}
 use Rattle.readings.proofs.RefusalLaws.{isSample}
 
@@ -83,12 +83,6 @@ unfolding ofBits readingNumber
 least-subnormal-is-four = refl
 
 -- ---- the sample has the reading's value
-
--- a whole number is the exact value of a float; nought is that of both its noughts
-pub record Exactly (x : Float) (z : ℤ) : Type 0 where
-  pub sign : Bool
-  pub value : HasValue x sign (natAbs z) 1
-  pub signed : z ≡ cond sign (negℤ (pos (natAbs z))) (pos (natAbs z))
 
 -- a reading that is a sample has no fraction
 sample-no-rest : (s : Bool) (m : ℕ) (e : ℤ) → readingNumber (fin s m e) ≡ 0 → m * up e % down e ≡ 0

@@ -1,10 +1,12 @@
 -- Float readings: which become samples, and what the others are refused for, by cases on the float.
-use mathlib.Core.Bool.{cond}
+use mathlib.Core.Path.{_≡_}
+use mathlib.Core.Bool.{Bool, cond}
 use mathlib.Core.List.{List, map}
 use Prim.Native.Nat.{ℕ, _*_, _/_, _%_, _^_}
 use lib.Dec.{ltb, eqb}
-use lib.IntN.{ℤ, pos, negℤ}
+use lib.IntN.{ℤ, pos, negℤ, natAbs}
 use lib.Ieee.{Float, nan, inf, fin, up, down}
+use lib.Ieee.Exact.{HasValue}
 use lib.ListN.{length, getD}
 use Rattle.laws.specs.Lists.{firstFailing}
 use Rattle.record.specs.Refusals.{refusedIf}
@@ -22,6 +24,12 @@ unfoldable pub sampleOf : Float → ℤ
 sampleOf nan = pos 0
 sampleOf (inf s) = pos 0
 sampleOf (fin s m e) = cond s (negℤ (pos (m * up e / down e))) (pos (m * up e / down e))
+
+-- what that means: a whole number is the exact value of a float; nought is that of both its noughts
+pub record Exactly (x : Float) (z : ℤ) : Type 0 where
+  pub sign : Bool
+  pub value : HasValue x sign (natAbs z) 1
+  pub signed : z ≡ cond sign (negℤ (pos (natAbs z))) (pos (natAbs z))
 
 unfoldable pub samplesOf : List Float → List ℤ
 samplesOf xs = map sampleOf xs
