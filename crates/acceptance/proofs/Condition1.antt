@@ -148,7 +148,10 @@ use Rattle.noise.proofs.noise_of_record.Kinds as noise-of-record-kinds
 use Rattle.noise.proofs.bars.bars.Reads as bars
 use Rattle.noise.proofs.bars.bars.Kinds as bars-kinds
 use Rattle.ploegelster.proofs.Unique.{plg-noise-type-single, plg-noise-of-record-single, plg-bars-single}
-use Rattle.ploegelster.specs.Boundary.{toldNoise}
+use Rattle.ploegelster.specs.Boundary.{toldNoise, barsByAlpha}
+use Rattle.ploegelster.proofs.Told.{type-by-alpha, alpha-of-none}
+use Rattle.noise.specs.Noise.{alphaOf}
+use Rattle.noise.specs.declared.Noise.{Noise}
 use Rattle.ploegelster.proofs.drawing.plg_noise_type.Reads as plg-noise-type
 use Rattle.ploegelster.proofs.drawing.plg_noise_type.Kinds as plg-noise-type-kinds
 use Rattle.ploegelster.proofs.drawing.plg_noise_of_record.Reads as plg-noise-of-record
@@ -558,6 +561,22 @@ plg-noise-of-record-tells κs args z w is own other = is ∙ sym (ap toldNoise o
 pub plg-noise-of-record-settled : Settled 1 plg-noise-of-record-kinds.ps plg-noise-of-record-kinds.r plg-noise-of-record.Post
     (λ κs args z w. Refused (z .number) → ToldNoiseNought z)
 plg-noise-of-record-settled = (plg-noise-of-record-single, λ κs args z w is. rw is (told-noise-noughts _))
+
+-- an alpha stands for the type that has it
+pub plg-bars-tells : Always 0 plg-bars-kinds.ps plg-bars-kinds.r plg-bars.Post
+    (λ κs args z w. let r = args .0 in let alpha = args .1 .0 in let M = args .1 .1 .0 in
+    (t : Noise) → alpha ≡ alphaOf t → Always 0 bars-kinds.ps bars-kinds.r bars.Post
+    (λ κs′ args′ own w′. args′ .0 ≡ r → args′ .1 .0 ≡ t → args′ .1 .1 .0 ≡ M → z ≡ own))
+plg-bars-tells κs args z w is t known κs′ args′ own w′ other first type intervals =
+    is
+    ∙ ap (λ (a : ℤ). barsByAlpha (args .0) a (args .1 .1 .0)) known
+    ∙ type-by-alpha (args .0) t (args .1 .1 .0)
+    ∙ sym (other ∙ rw (first, type, intervals))
+
+-- any other is refused 3 at place 0, before all else
+pub plg-bars-no-type : Always 0 plg-bars-kinds.ps plg-bars-kinds.r plg-bars.Post
+    (λ κs args z w. let alpha = args .1 .0 in ((t : Noise) → alpha ≡ alphaOf t → ⊥) → (z .number ≡ 3) × (z .place ≡ 0))
+plg-bars-no-type κs args z w is none = rw is (alpha-of-none _ _ _ none)
 
 pub plg-bars-settled : Settled 0 plg-bars-kinds.ps plg-bars-kinds.r plg-bars.Post
     (λ κs args z w. Refused (z .number) → BarsNought z)

@@ -8,6 +8,7 @@ use mir.Val.{SFits, toZ, ofZ}
 use mir.ValLaws.{toZ-ofZ}
 use Rattle.plot.specs.Dots.{dotValue}
 use Rattle.noise.specs.Noise.{alphaOf}
+use Rattle.noise.specs.Bars.{barsAnswer}
 use Rattle.plot.specs.declared.dots.Dot.{Dot}
 use Rattle.plot.specs.declared.dots.DotAnswer.{DotAnswer}
 use Rattle.noise.specs.declared.Noise.{Noise}
@@ -53,3 +54,26 @@ no-alpha r (pos (suc (suc (suc n)))) m two one nought minus-one minus-two = refl
 no-alpha r (negsuc zero) m two one nought minus-one minus-two = absurd (minus-one refl)
 no-alpha r (negsuc (suc zero)) m two one nought minus-one minus-two = absurd (minus-two refl)
 no-alpha r (negsuc (suc (suc n))) m two one nought minus-one minus-two = refl
+
+-- ---- bars by alpha are bars by type
+
+-- the alpha of a type stands for it
+pub type-by-alpha : (r : ℕ) (t : Noise) (m : ℕ) → barsByAlpha r (alphaOf t) m ≡ barsAnswer r t m
+unfolding barsByAlpha alphaOf
+type-by-alpha r WhitePhase m = refl
+type-by-alpha r FlickerPhase m = refl
+type-by-alpha r WhiteFrequency m = refl
+type-by-alpha r FlickerFrequency m = refl
+type-by-alpha r RandomWalkFrequency m = refl
+
+-- an alpha that no type has is refused 3 at place 0
+pub alpha-of-none : (r : ℕ) (alpha : ℤ) (m : ℕ) → ((t : Noise) → alpha ≡ alphaOf t → ⊥) →
+    (barsByAlpha r alpha m .number ≡ 3) × (barsByAlpha r alpha m .place ≡ 0)
+unfolding barsByAlpha noSuchType alphaOf
+alpha-of-none r (pos zero) m none = absurd (none WhiteFrequency refl)
+alpha-of-none r (pos (suc zero)) m none = absurd (none FlickerPhase refl)
+alpha-of-none r (pos (suc (suc zero))) m none = absurd (none WhitePhase refl)
+alpha-of-none r (pos (suc (suc (suc n)))) m none = (refl, refl)
+alpha-of-none r (negsuc zero) m none = absurd (none FlickerFrequency refl)
+alpha-of-none r (negsuc (suc zero)) m none = absurd (none RandomWalkFrequency refl)
+alpha-of-none r (negsuc (suc (suc n))) m none = (refl, refl)
