@@ -11,25 +11,6 @@ use lib.IntN.{ℤ}
 use lib.ListN.{length, getD}
 use Rattle.laws.proofs.Single.{Single, Always, Settled}
 use Rattle.wide.proofs.Unique.{sum-single, at-most-single, product-low-single, product-single, size-single, with-square-single, divided-single, root-single, square-at-most-single}
-use Rattle.record.proofs.Unique.{in-range-single, range-refusal-single, size-refusal-single, record-refusal-single, refused-count-single}
-use Rattle.frequency.proofs.Unique.{phase-from-frequency-single, frequency-from-phase-single}
-use Rattle.sums.proofs.Unique.{allan-sum-single, modified-sum-single}
-use Rattle.drift.proofs.Unique.{drift-figure-single, remove-drift-single}
-use Rattle.meter.proofs.Unique.{start-single, sample-single, report-single}
-use Rattle.readings.proofs.Unique.{float-sums-single}
-use Rattle.phr.proofs.Unique.{read-file-single, write-file-single}
-use Rattle.plot.proofs.Unique.{drawn-number-single, allan-dot-single, time-dot-single}
-use Rattle.ploegelster.proofs.Unique.{plg-allan-dot-single, plg-time-dot-single}
-use Rattle.frequency.proofs.FrequencyLaws.{phases-length, differences-length}
-use Rattle.sums.specs.Answers.{allanSumAnswer, modifiedSumAnswer}
-use Rattle.drift.proofs.DriftLaws.{without-drift-length}
-use Rattle.meter.specs.Answers.{startAnswer, sampleAnswer}
-use Rattle.phr.proofs.RoundTrip.{file-length}
-use Rattle.plot.specs.Dots.{allanDotAnswer, timeDotAnswer}
-use Rattle.plot.specs.declared.dots.DotAnswer.{DotAnswer}
-use Rattle.ploegelster.specs.Boundary.{toldDot}
-use Rattle.acceptance.specs.Noughts.{Refused, CountNought, ReadNought, SumNought, PartValuesNought, FloatNought, ReportNought, DriftNought, DrawnNought, DotNought, ToldDotNought}
-use Rattle.acceptance.proofs.NoughtLaws.{count-noughts, past-the-count, read-noughts, past-the-values, sum-noughts, float-noughts, float-part-noughts, past-the-samples, report-noughts, report-part-noughts, drift-noughts, meter-as-it-came, ring-as-it-came, other-slots-unchanged, drawn-noughts, dot-noughts, told-dot-noughts}
 use Rattle.wide.proofs.sum.Reads as wide-sum
 use Rattle.wide.proofs.sum.Kinds as wide-sum-kinds
 use Rattle.wide.proofs.at_most.Reads as wide-at-most
@@ -48,6 +29,7 @@ use Rattle.wide.proofs.root.Reads as wide-root
 use Rattle.wide.proofs.root.Kinds as wide-root-kinds
 use Rattle.wide.proofs.square_at_most.Reads as wide-square-at-most
 use Rattle.wide.proofs.square_at_most.Kinds as wide-square-at-most-kinds
+use Rattle.record.proofs.Unique.{in-range-single, range-refusal-single, size-refusal-single, record-refusal-single, refused-count-single}
 use Rattle.record.proofs.in_range.Reads as in-range
 use Rattle.record.proofs.in_range.Kinds as in-range-kinds
 use Rattle.record.proofs.range_refusal.Reads as range-refusal
@@ -58,36 +40,73 @@ use Rattle.record.proofs.record_refusal.Reads as record-refusal
 use Rattle.record.proofs.record_refusal.Kinds as record-refusal-kinds
 use Rattle.record.proofs.refused_count.Reads as refused-count
 use Rattle.record.proofs.refused_count.Kinds as refused-count-kinds
-use Rattle.frequency.proofs.phase_from_frequency.Reads as phase-from-frequency
-use Rattle.frequency.proofs.phase_from_frequency.Kinds as phase-from-frequency-kinds
-use Rattle.frequency.proofs.frequency_from_phase.Reads as frequency-from-phase
-use Rattle.frequency.proofs.frequency_from_phase.Kinds as frequency-from-phase-kinds
+use Rattle.sums.proofs.Unique.{allan-sum-single, modified-sum-single}
+use Rattle.sums.specs.Answers.{allanSumAnswer, modifiedSumAnswer}
 use Rattle.sums.proofs.allan_sum.Reads as allan-sum
 use Rattle.sums.proofs.allan_sum.Kinds as allan-sum-kinds
 use Rattle.sums.proofs.modified_sum.Reads as modified-sum
 use Rattle.sums.proofs.modified_sum.Kinds as modified-sum-kinds
+use Rattle.variances.proofs.Unique.{allan-fraction-single, time-fraction-single, allan-deviation-single, time-deviation-single}
+use Rattle.variances.specs.Answers.{allanFractionAnswer, timeFractionAnswer, allanDeviationAnswer, timeDeviationAnswer}
+use Rattle.variances.proofs.allan_fraction.Reads as allan-fraction
+use Rattle.variances.proofs.allan_fraction.Kinds as allan-fraction-kinds
+use Rattle.variances.proofs.time_fraction.Reads as time-fraction
+use Rattle.variances.proofs.time_fraction.Kinds as time-fraction-kinds
+use Rattle.variances.proofs.allan_deviation.Reads as allan-deviation
+use Rattle.variances.proofs.allan_deviation.Kinds as allan-deviation-kinds
+use Rattle.variances.proofs.time_deviation.Reads as time-deviation
+use Rattle.variances.proofs.time_deviation.Kinds as time-deviation-kinds
+use Rattle.frequency.proofs.Unique.{phase-from-frequency-single, frequency-from-phase-single}
+use Rattle.frequency.proofs.FrequencyLaws.{phases-length, differences-length}
+use Rattle.frequency.proofs.phase_from_frequency.Reads as phase-from-frequency
+use Rattle.frequency.proofs.phase_from_frequency.Kinds as phase-from-frequency-kinds
+use Rattle.frequency.proofs.frequency_from_phase.Reads as frequency-from-phase
+use Rattle.frequency.proofs.frequency_from_phase.Kinds as frequency-from-phase-kinds
+use Rattle.drift.proofs.Unique.{drift-figure-single, remove-drift-single}
+use Rattle.drift.proofs.DriftLaws.{without-drift-length}
 use Rattle.drift.proofs.drift_figure.Reads as drift-figure
 use Rattle.drift.proofs.drift_figure.Kinds as drift-figure-kinds
 use Rattle.drift.proofs.remove_drift.Reads as remove-drift
 use Rattle.drift.proofs.remove_drift.Kinds as remove-drift-kinds
-use Rattle.meter.proofs.Meter.start.Reads as meter-start
-use Rattle.meter.proofs.Meter.start.Kinds as meter-start-kinds
-use Rattle.meter.proofs.Meter.sample.Reads as meter-sample
-use Rattle.meter.proofs.Meter.sample.Kinds as meter-sample-kinds
-use Rattle.meter.proofs.Meter.report.Reads as meter-report
-use Rattle.meter.proofs.Meter.report.Kinds as meter-report-kinds
+use Rattle.readings.proofs.Unique.{float-sums-single}
 use Rattle.readings.proofs.float_sums.Reads as float-sums
 use Rattle.readings.proofs.float_sums.Kinds as float-sums-kinds
-use Rattle.phr.proofs.read_file.Reads as read-file
-use Rattle.phr.proofs.read_file.Kinds as read-file-kinds
-use Rattle.phr.proofs.write_file.Reads as write-file
-use Rattle.phr.proofs.write_file.Kinds as write-file-kinds
+use Rattle.plot.proofs.Unique.{drawn-number-single, allan-dot-single, time-dot-single}
+use Rattle.plot.specs.Dots.{allanDotAnswer, timeDotAnswer}
+use Rattle.plot.specs.declared.dots.DotAnswer.{DotAnswer}
 use Rattle.plot.proofs.drawn.drawn_number.Reads as drawn-number
 use Rattle.plot.proofs.drawn.drawn_number.Kinds as drawn-number-kinds
 use Rattle.plot.proofs.dots.allan_dot.Reads as allan-dot
 use Rattle.plot.proofs.dots.allan_dot.Kinds as allan-dot-kinds
 use Rattle.plot.proofs.dots.time_dot.Reads as time-dot
 use Rattle.plot.proofs.dots.time_dot.Kinds as time-dot-kinds
+use Rattle.noise.proofs.Unique.{noise-type-single, noise-of-record-single, bars-single}
+use Rattle.noise.specs.Noise.{typeAnswer, recordTypeAnswer, alphaOf}
+use Rattle.noise.specs.declared.NoiseAnswer.{NoiseAnswer}
+use Rattle.noise.specs.declared.Noise.{Noise}
+use Rattle.noise.proofs.noise_type.Reads as noise-type
+use Rattle.noise.proofs.noise_type.Kinds as noise-type-kinds
+use Rattle.noise.proofs.noise_of_record.Reads as noise-of-record
+use Rattle.noise.proofs.noise_of_record.Kinds as noise-of-record-kinds
+use Rattle.noise.proofs.bars.bars.Reads as bars
+use Rattle.noise.proofs.bars.bars.Kinds as bars-kinds
+use Rattle.meter.proofs.Unique.{start-single, sample-single, report-single}
+use Rattle.meter.specs.Answers.{startAnswer, sampleAnswer}
+use Rattle.meter.proofs.Meter.start.Reads as meter-start
+use Rattle.meter.proofs.Meter.start.Kinds as meter-start-kinds
+use Rattle.meter.proofs.Meter.sample.Reads as meter-sample
+use Rattle.meter.proofs.Meter.sample.Kinds as meter-sample-kinds
+use Rattle.meter.proofs.Meter.report.Reads as meter-report
+use Rattle.meter.proofs.Meter.report.Kinds as meter-report-kinds
+use Rattle.phr.proofs.Unique.{read-file-single, write-file-single}
+use Rattle.phr.proofs.RoundTrip.{file-length}
+use Rattle.phr.proofs.read_file.Reads as read-file
+use Rattle.phr.proofs.read_file.Kinds as read-file-kinds
+use Rattle.phr.proofs.write_file.Reads as write-file
+use Rattle.phr.proofs.write_file.Kinds as write-file-kinds
+use Rattle.ploegelster.proofs.Unique.{plg-allan-dot-single, plg-time-dot-single, plg-noise-type-single, plg-noise-of-record-single, plg-bars-single}
+use Rattle.ploegelster.specs.Boundary.{toldDot, toldNoise, barsByAlpha}
+use Rattle.ploegelster.proofs.Told.{type-by-alpha, alpha-of-none}
 use Rattle.ploegelster.proofs.published.plg_allan_sum.Reads as plg-allan-sum
 use Rattle.ploegelster.proofs.published.plg_allan_sum.Kinds as plg-allan-sum-kinds
 use Rattle.ploegelster.proofs.published.plg_modified_sum.Reads as plg-modified-sum
@@ -118,17 +137,6 @@ use Rattle.ploegelster.proofs.drawing.plg_allan_dot.Reads as plg-allan-dot
 use Rattle.ploegelster.proofs.drawing.plg_allan_dot.Kinds as plg-allan-dot-kinds
 use Rattle.ploegelster.proofs.drawing.plg_time_dot.Reads as plg-time-dot
 use Rattle.ploegelster.proofs.drawing.plg_time_dot.Kinds as plg-time-dot-kinds
--- fractions and deviations
-use Rattle.variances.proofs.Unique.{allan-fraction-single, time-fraction-single, allan-deviation-single, time-deviation-single}
-use Rattle.variances.specs.Answers.{allanFractionAnswer, timeFractionAnswer, allanDeviationAnswer, timeDeviationAnswer}
-use Rattle.variances.proofs.allan_fraction.Reads as allan-fraction
-use Rattle.variances.proofs.allan_fraction.Kinds as allan-fraction-kinds
-use Rattle.variances.proofs.time_fraction.Reads as time-fraction
-use Rattle.variances.proofs.time_fraction.Kinds as time-fraction-kinds
-use Rattle.variances.proofs.allan_deviation.Reads as allan-deviation
-use Rattle.variances.proofs.allan_deviation.Kinds as allan-deviation-kinds
-use Rattle.variances.proofs.time_deviation.Reads as time-deviation
-use Rattle.variances.proofs.time_deviation.Kinds as time-deviation-kinds
 use Rattle.ploegelster.proofs.published.plg_allan_fraction.Reads as plg-allan-fraction
 use Rattle.ploegelster.proofs.published.plg_allan_fraction.Kinds as plg-allan-fraction-kinds
 use Rattle.ploegelster.proofs.published.plg_time_fraction.Reads as plg-time-fraction
@@ -137,29 +145,14 @@ use Rattle.ploegelster.proofs.published.plg_allan_deviation.Reads as plg-allan-
 use Rattle.ploegelster.proofs.published.plg_allan_deviation.Kinds as plg-allan-deviation-kinds
 use Rattle.ploegelster.proofs.published.plg_time_deviation.Reads as plg-time-deviation
 use Rattle.ploegelster.proofs.published.plg_time_deviation.Kinds as plg-time-deviation-kinds
--- noise types and bars
-use Rattle.noise.proofs.Unique.{noise-type-single, noise-of-record-single, bars-single}
-use Rattle.noise.specs.Noise.{typeAnswer, recordTypeAnswer}
-use Rattle.noise.specs.declared.NoiseAnswer.{NoiseAnswer}
-use Rattle.noise.proofs.noise_type.Reads as noise-type
-use Rattle.noise.proofs.noise_type.Kinds as noise-type-kinds
-use Rattle.noise.proofs.noise_of_record.Reads as noise-of-record
-use Rattle.noise.proofs.noise_of_record.Kinds as noise-of-record-kinds
-use Rattle.noise.proofs.bars.bars.Reads as bars
-use Rattle.noise.proofs.bars.bars.Kinds as bars-kinds
-use Rattle.ploegelster.proofs.Unique.{plg-noise-type-single, plg-noise-of-record-single, plg-bars-single}
-use Rattle.ploegelster.specs.Boundary.{toldNoise, barsByAlpha}
-use Rattle.ploegelster.proofs.Told.{type-by-alpha, alpha-of-none}
-use Rattle.noise.specs.Noise.{alphaOf}
-use Rattle.noise.specs.declared.Noise.{Noise}
 use Rattle.ploegelster.proofs.drawing.plg_noise_type.Reads as plg-noise-type
 use Rattle.ploegelster.proofs.drawing.plg_noise_type.Kinds as plg-noise-type-kinds
 use Rattle.ploegelster.proofs.drawing.plg_noise_of_record.Reads as plg-noise-of-record
 use Rattle.ploegelster.proofs.drawing.plg_noise_of_record.Kinds as plg-noise-of-record-kinds
 use Rattle.ploegelster.proofs.drawing.plg_bars.Reads as plg-bars
 use Rattle.ploegelster.proofs.drawing.plg_bars.Kinds as plg-bars-kinds
-use Rattle.acceptance.specs.Noughts.{FractionNought, DeviationNought, NoiseNought, ToldNoiseNought, BarsNought}
-use Rattle.acceptance.proofs.NoughtLaws.{fraction-noughts, deviation-noughts, noise-noughts, told-noise-noughts, bars-noughts, alpha-bars-noughts}
+use Rattle.acceptance.specs.Noughts.{Refused, CountNought, ReadNought, SumNought, PartValuesNought, FloatNought, ReportNought, DriftNought, DrawnNought, DotNought, ToldDotNought, FractionNought, DeviationNought, NoiseNought, ToldNoiseNought, BarsNought}
+use Rattle.acceptance.proofs.NoughtLaws.{count-noughts, past-the-count, read-noughts, past-the-values, sum-noughts, float-noughts, float-part-noughts, past-the-samples, report-noughts, report-part-noughts, drift-noughts, meter-as-it-came, ring-as-it-came, other-slots-unchanged, drawn-noughts, dot-noughts, told-dot-noughts, fraction-noughts, deviation-noughts, noise-noughts, told-noise-noughts, bars-noughts, alpha-bars-noughts}
 
 -- ---- wide: whole numbers of 128 bits; nothing is refused
 
@@ -207,6 +200,40 @@ record-refusal-one-answer = record-refusal-single
 pub refused-count-one-answer : Single 0 refused-count-kinds.ps refused-count-kinds.r refused-count.Post
 refused-count-one-answer = refused-count-single
 
+-- ---- sums
+
+pub allan-sum-settled : Settled 1 allan-sum-kinds.ps allan-sum-kinds.r allan-sum.Post
+    (λ κs args z w. Refused (z .number) → SumNought z)
+unfolding allanSumAnswer
+allan-sum-settled = (allan-sum-single, λ κs args z w is. rw is (sum-noughts _ _ _))
+
+pub modified-sum-settled : Settled 1 modified-sum-kinds.ps modified-sum-kinds.r modified-sum.Post
+    (λ κs args z w. Refused (z .number) → SumNought z)
+unfolding modifiedSumAnswer
+modified-sum-settled = (modified-sum-single, λ κs args z w is. rw is (sum-noughts _ _ _))
+
+-- ---- variances
+
+pub allan-fraction-settled : Settled 0 allan-fraction-kinds.ps allan-fraction-kinds.r allan-fraction.Post
+    (λ κs args z w. Refused (z .number) → FractionNought z)
+unfolding allanFractionAnswer
+allan-fraction-settled = (allan-fraction-single, λ κs args z w is. rw is (fraction-noughts _ _))
+
+pub time-fraction-settled : Settled 0 time-fraction-kinds.ps time-fraction-kinds.r time-fraction.Post
+    (λ κs args z w. Refused (z .number) → FractionNought z)
+unfolding timeFractionAnswer
+time-fraction-settled = (time-fraction-single, λ κs args z w is. rw is (fraction-noughts _ _))
+
+pub allan-deviation-settled : Settled 0 allan-deviation-kinds.ps allan-deviation-kinds.r allan-deviation.Post
+    (λ κs args z w. Refused (z .number) → DeviationNought z)
+unfolding allanDeviationAnswer
+allan-deviation-settled = (allan-deviation-single, λ κs args z w is. rw is (deviation-noughts _ _))
+
+pub time-deviation-settled : Settled 0 time-deviation-kinds.ps time-deviation-kinds.r time-deviation.Post
+    (λ κs args z w. Refused (z .number) → DeviationNought z)
+unfolding timeDeviationAnswer
+time-deviation-settled = (time-deviation-single, λ κs args z w is. rw is (deviation-noughts _ _))
+
 -- ---- frequency
 
 pub phase-from-frequency-settled : Settled 2 phase-from-frequency-kinds.ps phase-from-frequency-kinds.r phase-from-frequency.Post
@@ -226,18 +253,6 @@ pub frequency-from-phase-past : Always 2 frequency-from-phase-kinds.ps frequency
     (λ κs args z w. let buffer = now (args .1 .0) in let left = w .1 .0 in (i : ℕ) (e : ℤ) → z .count ≤ i → getD left i e ≡ getD buffer i e)
 frequency-from-phase-past κs args z w is = rw (is .0, is .1) (past-the-count _ _ _ _ (differences-length _))
 
--- ---- sums
-
-pub allan-sum-settled : Settled 1 allan-sum-kinds.ps allan-sum-kinds.r allan-sum.Post
-    (λ κs args z w. Refused (z .number) → SumNought z)
-unfolding allanSumAnswer
-allan-sum-settled = (allan-sum-single, λ κs args z w is. rw is (sum-noughts _ _ _))
-
-pub modified-sum-settled : Settled 1 modified-sum-kinds.ps modified-sum-kinds.r modified-sum.Post
-    (λ κs args z w. Refused (z .number) → SumNought z)
-unfolding modifiedSumAnswer
-modified-sum-settled = (modified-sum-single, λ κs args z w is. rw is (sum-noughts _ _ _))
-
 -- ---- drift
 
 pub drift-figure-settled : Settled 1 drift-figure-kinds.ps drift-figure-kinds.r drift-figure.Post
@@ -251,6 +266,57 @@ remove-drift-settled = (remove-drift-single, λ κs args z w is. rw (is .0, is .
 pub remove-drift-past : Always 2 remove-drift-kinds.ps remove-drift-kinds.r remove-drift.Post
     (λ κs args z w. let buffer = now (args .1 .0) in let left = w .1 .0 in (i : ℕ) (e : ℤ) → z .count ≤ i → getD left i e ≡ getD buffer i e)
 remove-drift-past κs args z w is = rw (is .0, is .1) (past-the-count _ _ _ _ (without-drift-length _))
+
+-- ---- readings
+
+pub float-sums-settled : Settled 2 float-sums-kinds.ps float-sums-kinds.r float-sums.Post
+    (λ κs args z w. let buffer = now (args .1 .1 .0) in let left = w .1 .1 .0 in
+    (Refused (z .number) → FloatNought z × (left ≡ buffer))
+    × (Refused (z .allan .number) → PartValuesNought (z .allan))
+    × (Refused (z .modified .number) → PartValuesNought (z .modified)))
+float-sums-settled = (
+  float-sums-single,
+  λ κs args z w is.
+      let parts = float-part-noughts (args .1 .0) (now (args .0)) (now (args .1 .1 .0)) in
+      rw (is .0, is .1) (float-noughts _ _ _, parts .0, parts .1),
+)
+
+pub float-sums-past : Always 2 float-sums-kinds.ps float-sums-kinds.r float-sums.Post
+    (λ κs args z w. let xs = now (args .0) in let buffer = now (args .1 .1 .0) in let left = w .1 .1 .0 in
+    (i : ℕ) (e : ℤ) → length xs ≤ i → getD left i e ≡ getD buffer i e)
+float-sums-past κs args z w is = rw (is .1) (past-the-samples (args .1 .0) (now (args .0)) (now (args .1 .1 .0)))
+
+-- ---- plot: what is drawn
+
+pub drawn-number-settled : Settled 0 drawn-number-kinds.ps drawn-number-kinds.r drawn-number.Post
+    (λ κs args z w. Refused (z .number) → DrawnNought z)
+drawn-number-settled = (drawn-number-single, λ κs args z w is. rw is (drawn-noughts _))
+
+pub allan-dot-settled : Settled 0 allan-dot-kinds.ps allan-dot-kinds.r allan-dot.Post
+    (λ κs args z w. Refused (z .number) → DotNought z)
+unfolding allanDotAnswer
+allan-dot-settled = (allan-dot-single, λ κs args z w is. rw is (dot-noughts _))
+
+pub time-dot-settled : Settled 0 time-dot-kinds.ps time-dot-kinds.r time-dot.Post
+    (λ κs args z w. Refused (z .number) → DotNought z)
+unfolding timeDotAnswer
+time-dot-settled = (time-dot-single, λ κs args z w is. rw is (dot-noughts _))
+
+-- ---- noise
+
+pub noise-type-settled : Settled 0 noise-type-kinds.ps noise-type-kinds.r noise-type.Post
+    (λ κs args z w. Refused (z .number) → NoiseNought z)
+unfolding typeAnswer
+noise-type-settled = (noise-type-single, λ κs args z w is. rw is (noise-noughts _ _))
+
+pub noise-of-record-settled : Settled 1 noise-of-record-kinds.ps noise-of-record-kinds.r noise-of-record.Post
+    (λ κs args z w. Refused (z .number) → NoiseNought z)
+unfolding recordTypeAnswer
+noise-of-record-settled = (noise-of-record-single, λ κs args z w is. rw is (noise-noughts _ _))
+
+pub bars-settled : Settled 0 bars-kinds.ps bars-kinds.r bars.Post
+    (λ κs args z w. Refused (z .number) → BarsNought z)
+bars-settled = (bars-single, λ κs args z w is. rw is (bars-noughts _ _ _))
 
 -- ---- meter: a ring that is lent for a start is read alone
 
@@ -277,25 +343,6 @@ pub meter-report-settled : Settled 0 meter-report-kinds.ps meter-report-kinds.r 
     × (Refused (z .modified .number) → PartValuesNought (z .modified)))
 meter-report-settled = (report-single, λ κs args z w is. rw is (report-noughts _, report-part-noughts _ .0, report-part-noughts _ .1))
 
--- ---- readings
-
-pub float-sums-settled : Settled 2 float-sums-kinds.ps float-sums-kinds.r float-sums.Post
-    (λ κs args z w. let buffer = now (args .1 .1 .0) in let left = w .1 .1 .0 in
-    (Refused (z .number) → FloatNought z × (left ≡ buffer))
-    × (Refused (z .allan .number) → PartValuesNought (z .allan))
-    × (Refused (z .modified .number) → PartValuesNought (z .modified)))
-float-sums-settled = (
-  float-sums-single,
-  λ κs args z w is.
-      let parts = float-part-noughts (args .1 .0) (now (args .0)) (now (args .1 .1 .0)) in
-      rw (is .0, is .1) (float-noughts _ _ _, parts .0, parts .1),
-)
-
-pub float-sums-past : Always 2 float-sums-kinds.ps float-sums-kinds.r float-sums.Post
-    (λ κs args z w. let xs = now (args .0) in let buffer = now (args .1 .1 .0) in let left = w .1 .1 .0 in
-    (i : ℕ) (e : ℤ) → length xs ≤ i → getD left i e ≡ getD buffer i e)
-float-sums-past κs args z w is = rw (is .1) (past-the-samples (args .1 .0) (now (args .0)) (now (args .1 .1 .0)))
-
 -- ---- phr
 
 pub read-file-settled : Settled 2 read-file-kinds.ps read-file-kinds.r read-file.Post
@@ -314,22 +361,6 @@ pub write-file-past : Always 2 write-file-kinds.ps write-file-kinds.r write-file
     (λ κs args z w. let buffer = now (args .1 .1 .0) in let left = w .1 .1 .0 in (i : ℕ) (e : ℕ) → z .count ≤ i → getD left i e ≡ getD buffer i e)
 write-file-past κs args z w is = rw (is .0, is .1) (past-the-count _ _ _ _ (file-length _ _))
 
--- ---- plot: what is drawn
-
-pub drawn-number-settled : Settled 0 drawn-number-kinds.ps drawn-number-kinds.r drawn-number.Post
-    (λ κs args z w. Refused (z .number) → DrawnNought z)
-drawn-number-settled = (drawn-number-single, λ κs args z w is. rw is (drawn-noughts _))
-
-pub allan-dot-settled : Settled 0 allan-dot-kinds.ps allan-dot-kinds.r allan-dot.Post
-    (λ κs args z w. Refused (z .number) → DotNought z)
-unfolding allanDotAnswer
-allan-dot-settled = (allan-dot-single, λ κs args z w is. rw is (dot-noughts _))
-
-pub time-dot-settled : Settled 0 time-dot-kinds.ps time-dot-kinds.r time-dot.Post
-    (λ κs args z w. Refused (z .number) → DotNought z)
-unfolding timeDotAnswer
-time-dot-settled = (time-dot-single, λ κs args z w is. rw is (dot-noughts _))
-
 -- ---- ploegelster, the library that an app links: each contract is the entry's own (NAME-is), so that all that is said of the entry holds of it
 
 pub plg-allan-sum-is : plg-allan-sum.Post ≡ allan-sum.Post
@@ -345,6 +376,34 @@ plg-modified-sum-is = refl
 pub plg-modified-sum-settled : Settled 1 plg-modified-sum-kinds.ps plg-modified-sum-kinds.r plg-modified-sum.Post
     (λ κs args z w. Refused (z .number) → SumNought z)
 plg-modified-sum-settled = modified-sum-settled
+
+pub plg-allan-fraction-is : plg-allan-fraction.Post ≡ allan-fraction.Post
+plg-allan-fraction-is = refl
+
+pub plg-allan-fraction-settled : Settled 0 plg-allan-fraction-kinds.ps plg-allan-fraction-kinds.r plg-allan-fraction.Post
+    (λ κs args z w. Refused (z .number) → FractionNought z)
+plg-allan-fraction-settled = allan-fraction-settled
+
+pub plg-time-fraction-is : plg-time-fraction.Post ≡ time-fraction.Post
+plg-time-fraction-is = refl
+
+pub plg-time-fraction-settled : Settled 0 plg-time-fraction-kinds.ps plg-time-fraction-kinds.r plg-time-fraction.Post
+    (λ κs args z w. Refused (z .number) → FractionNought z)
+plg-time-fraction-settled = time-fraction-settled
+
+pub plg-allan-deviation-is : plg-allan-deviation.Post ≡ allan-deviation.Post
+plg-allan-deviation-is = refl
+
+pub plg-allan-deviation-settled : Settled 0 plg-allan-deviation-kinds.ps plg-allan-deviation-kinds.r plg-allan-deviation.Post
+    (λ κs args z w. Refused (z .number) → DeviationNought z)
+plg-allan-deviation-settled = allan-deviation-settled
+
+pub plg-time-deviation-is : plg-time-deviation.Post ≡ time-deviation.Post
+plg-time-deviation-is = refl
+
+pub plg-time-deviation-settled : Settled 0 plg-time-deviation-kinds.ps plg-time-deviation-kinds.r plg-time-deviation.Post
+    (λ κs args z w. Refused (z .number) → DeviationNought z)
+plg-time-deviation-settled = time-deviation-settled
 
 pub plg-phase-from-frequency-is : plg-phase-from-frequency.Post ≡ phase-from-frequency.Post
 plg-phase-from-frequency-is = refl
@@ -401,6 +460,69 @@ pub plg-float-sums-past : Always 2 plg-float-sums-kinds.ps plg-float-sums-kinds.
     (i : ℕ) (e : ℤ) → length xs ≤ i → getD left i e ≡ getD buffer i e)
 plg-float-sums-past = float-sums-past
 
+pub plg-drawn-number-is : plg-drawn-number.Post ≡ drawn-number.Post
+plg-drawn-number-is = refl
+
+pub plg-drawn-number-settled : Settled 0 plg-drawn-number-kinds.ps plg-drawn-number-kinds.r plg-drawn-number.Post
+    (λ κs args z w. Refused (z .number) → DrawnNought z)
+plg-drawn-number-settled = drawn-number-settled
+
+-- C has no enum: a dot is told as a kind and a double, whatever dot the entry's contract allows
+pub plg-allan-dot-tells : Always 0 plg-allan-dot-kinds.ps plg-allan-dot-kinds.r plg-allan-dot.Post
+    (λ κs args z w. (own : DotAnswer) → allan-dot.Post κs args own (atExit (endedOf 0 allan-dot-kinds.ps allan-dot-kinds.r) κs args w) → z ≡ toldDot own)
+plg-allan-dot-tells κs args z w is own other = is ∙ sym (ap toldDot other)
+
+pub plg-allan-dot-settled : Settled 0 plg-allan-dot-kinds.ps plg-allan-dot-kinds.r plg-allan-dot.Post
+    (λ κs args z w. Refused (z .number) → ToldDotNought z)
+unfolding allanDotAnswer
+plg-allan-dot-settled = (plg-allan-dot-single, λ κs args z w is. rw is (told-dot-noughts _))
+
+pub plg-time-dot-tells : Always 0 plg-time-dot-kinds.ps plg-time-dot-kinds.r plg-time-dot.Post
+    (λ κs args z w. (own : DotAnswer) → time-dot.Post κs args own (atExit (endedOf 0 time-dot-kinds.ps time-dot-kinds.r) κs args w) → z ≡ toldDot own)
+plg-time-dot-tells κs args z w is own other = is ∙ sym (ap toldDot other)
+
+pub plg-time-dot-settled : Settled 0 plg-time-dot-kinds.ps plg-time-dot-kinds.r plg-time-dot.Post
+    (λ κs args z w. Refused (z .number) → ToldDotNought z)
+unfolding timeDotAnswer
+plg-time-dot-settled = (plg-time-dot-single, λ κs args z w is. rw is (told-dot-noughts _))
+
+-- C has no enum: a noise type is told as its alpha, and bars take an alpha
+pub plg-noise-type-tells : Always 0 plg-noise-type-kinds.ps plg-noise-type-kinds.r plg-noise-type.Post
+    (λ κs args z w. (own : NoiseAnswer) → noise-type.Post κs args own (atExit (endedOf 0 noise-type-kinds.ps noise-type-kinds.r) κs args w) → z ≡ toldNoise own)
+plg-noise-type-tells κs args z w is own other = is ∙ sym (ap toldNoise other)
+
+pub plg-noise-type-settled : Settled 0 plg-noise-type-kinds.ps plg-noise-type-kinds.r plg-noise-type.Post
+    (λ κs args z w. Refused (z .number) → ToldNoiseNought z)
+plg-noise-type-settled = (plg-noise-type-single, λ κs args z w is. rw is (told-noise-noughts _))
+
+pub plg-noise-of-record-tells : Always 1 plg-noise-of-record-kinds.ps plg-noise-of-record-kinds.r plg-noise-of-record.Post
+    (λ κs args z w. (own : NoiseAnswer) → noise-of-record.Post κs args own (atExit (endedOf 1 noise-of-record-kinds.ps noise-of-record-kinds.r) κs args w) → z ≡ toldNoise own)
+plg-noise-of-record-tells κs args z w is own other = is ∙ sym (ap toldNoise other)
+
+pub plg-noise-of-record-settled : Settled 1 plg-noise-of-record-kinds.ps plg-noise-of-record-kinds.r plg-noise-of-record.Post
+    (λ κs args z w. Refused (z .number) → ToldNoiseNought z)
+plg-noise-of-record-settled = (plg-noise-of-record-single, λ κs args z w is. rw is (told-noise-noughts _))
+
+-- an alpha stands for the type that has it
+pub plg-bars-tells : Always 0 plg-bars-kinds.ps plg-bars-kinds.r plg-bars.Post
+    (λ κs args z w. let r = args .0 in let alpha = args .1 .0 in let M = args .1 .1 .0 in
+    (t : Noise) → alpha ≡ alphaOf t → Always 0 bars-kinds.ps bars-kinds.r bars.Post
+    (λ κs′ args′ own w′. args′ .0 ≡ r → args′ .1 .0 ≡ t → args′ .1 .1 .0 ≡ M → z ≡ own))
+plg-bars-tells κs args z w is t known κs′ args′ own w′ other first type intervals =
+    is
+    ∙ ap (λ (a : ℤ). barsByAlpha (args .0) a (args .1 .1 .0)) known
+    ∙ type-by-alpha (args .0) t (args .1 .1 .0)
+    ∙ sym (other ∙ rw (first, type, intervals))
+
+-- any other is refused 3 at place 0, before all else
+pub plg-bars-no-type : Always 0 plg-bars-kinds.ps plg-bars-kinds.r plg-bars.Post
+    (λ κs args z w. let alpha = args .1 .0 in ((t : Noise) → alpha ≡ alphaOf t → ⊥) → (z .number ≡ 3) × (z .place ≡ 0))
+plg-bars-no-type κs args z w is none = rw is (alpha-of-none _ _ _ none)
+
+pub plg-bars-settled : Settled 0 plg-bars-kinds.ps plg-bars-kinds.r plg-bars.Post
+    (λ κs args z w. Refused (z .number) → BarsNought z)
+plg-bars-settled = (plg-bars-single, λ κs args z w is. rw is (alpha-bars-noughts _ _ _))
+
 pub plg-meter-start-is : plg-meter-start.Post ≡ meter-start.Post
 plg-meter-start-is = refl
 
@@ -450,134 +572,3 @@ plg-write-file-settled = write-file-settled
 pub plg-write-file-past : Always 2 plg-write-file-kinds.ps plg-write-file-kinds.r plg-write-file.Post
     (λ κs args z w. let buffer = now (args .1 .1 .0) in let left = w .1 .1 .0 in (i : ℕ) (e : ℕ) → z .count ≤ i → getD left i e ≡ getD buffer i e)
 plg-write-file-past = write-file-past
-
-pub plg-drawn-number-is : plg-drawn-number.Post ≡ drawn-number.Post
-plg-drawn-number-is = refl
-
-pub plg-drawn-number-settled : Settled 0 plg-drawn-number-kinds.ps plg-drawn-number-kinds.r plg-drawn-number.Post
-    (λ κs args z w. Refused (z .number) → DrawnNought z)
-plg-drawn-number-settled = drawn-number-settled
-
--- C has no enum: a dot is told as a kind and a double, whatever dot the entry's contract allows
-
-pub plg-allan-dot-tells : Always 0 plg-allan-dot-kinds.ps plg-allan-dot-kinds.r plg-allan-dot.Post
-    (λ κs args z w. (own : DotAnswer) → allan-dot.Post κs args own (atExit (endedOf 0 allan-dot-kinds.ps allan-dot-kinds.r) κs args w) → z ≡ toldDot own)
-plg-allan-dot-tells κs args z w is own other = is ∙ sym (ap toldDot other)
-
-pub plg-allan-dot-settled : Settled 0 plg-allan-dot-kinds.ps plg-allan-dot-kinds.r plg-allan-dot.Post
-    (λ κs args z w. Refused (z .number) → ToldDotNought z)
-unfolding allanDotAnswer
-plg-allan-dot-settled = (plg-allan-dot-single, λ κs args z w is. rw is (told-dot-noughts _))
-
-pub plg-time-dot-tells : Always 0 plg-time-dot-kinds.ps plg-time-dot-kinds.r plg-time-dot.Post
-    (λ κs args z w. (own : DotAnswer) → time-dot.Post κs args own (atExit (endedOf 0 time-dot-kinds.ps time-dot-kinds.r) κs args w) → z ≡ toldDot own)
-plg-time-dot-tells κs args z w is own other = is ∙ sym (ap toldDot other)
-
-pub plg-time-dot-settled : Settled 0 plg-time-dot-kinds.ps plg-time-dot-kinds.r plg-time-dot.Post
-    (λ κs args z w. Refused (z .number) → ToldDotNought z)
-unfolding timeDotAnswer
-plg-time-dot-settled = (plg-time-dot-single, λ κs args z w is. rw is (told-dot-noughts _))
-
--- ---- fractions and deviations
-
-pub allan-fraction-settled : Settled 0 allan-fraction-kinds.ps allan-fraction-kinds.r allan-fraction.Post
-    (λ κs args z w. Refused (z .number) → FractionNought z)
-unfolding allanFractionAnswer
-allan-fraction-settled = (allan-fraction-single, λ κs args z w is. rw is (fraction-noughts _ _))
-
-pub time-fraction-settled : Settled 0 time-fraction-kinds.ps time-fraction-kinds.r time-fraction.Post
-    (λ κs args z w. Refused (z .number) → FractionNought z)
-unfolding timeFractionAnswer
-time-fraction-settled = (time-fraction-single, λ κs args z w is. rw is (fraction-noughts _ _))
-
-pub allan-deviation-settled : Settled 0 allan-deviation-kinds.ps allan-deviation-kinds.r allan-deviation.Post
-    (λ κs args z w. Refused (z .number) → DeviationNought z)
-unfolding allanDeviationAnswer
-allan-deviation-settled = (allan-deviation-single, λ κs args z w is. rw is (deviation-noughts _ _))
-
-pub time-deviation-settled : Settled 0 time-deviation-kinds.ps time-deviation-kinds.r time-deviation.Post
-    (λ κs args z w. Refused (z .number) → DeviationNought z)
-unfolding timeDeviationAnswer
-time-deviation-settled = (time-deviation-single, λ κs args z w is. rw is (deviation-noughts _ _))
-
-pub plg-allan-fraction-is : plg-allan-fraction.Post ≡ allan-fraction.Post
-plg-allan-fraction-is = refl
-
-pub plg-allan-fraction-settled : Settled 0 plg-allan-fraction-kinds.ps plg-allan-fraction-kinds.r plg-allan-fraction.Post
-    (λ κs args z w. Refused (z .number) → FractionNought z)
-plg-allan-fraction-settled = allan-fraction-settled
-
-pub plg-time-fraction-is : plg-time-fraction.Post ≡ time-fraction.Post
-plg-time-fraction-is = refl
-
-pub plg-time-fraction-settled : Settled 0 plg-time-fraction-kinds.ps plg-time-fraction-kinds.r plg-time-fraction.Post
-    (λ κs args z w. Refused (z .number) → FractionNought z)
-plg-time-fraction-settled = time-fraction-settled
-
-pub plg-allan-deviation-is : plg-allan-deviation.Post ≡ allan-deviation.Post
-plg-allan-deviation-is = refl
-
-pub plg-allan-deviation-settled : Settled 0 plg-allan-deviation-kinds.ps plg-allan-deviation-kinds.r plg-allan-deviation.Post
-    (λ κs args z w. Refused (z .number) → DeviationNought z)
-plg-allan-deviation-settled = allan-deviation-settled
-
-pub plg-time-deviation-is : plg-time-deviation.Post ≡ time-deviation.Post
-plg-time-deviation-is = refl
-
-pub plg-time-deviation-settled : Settled 0 plg-time-deviation-kinds.ps plg-time-deviation-kinds.r plg-time-deviation.Post
-    (λ κs args z w. Refused (z .number) → DeviationNought z)
-plg-time-deviation-settled = time-deviation-settled
-
--- ---- noise types and bars
-
-pub noise-type-settled : Settled 0 noise-type-kinds.ps noise-type-kinds.r noise-type.Post
-    (λ κs args z w. Refused (z .number) → NoiseNought z)
-unfolding typeAnswer
-noise-type-settled = (noise-type-single, λ κs args z w is. rw is (noise-noughts _ _))
-
-pub noise-of-record-settled : Settled 1 noise-of-record-kinds.ps noise-of-record-kinds.r noise-of-record.Post
-    (λ κs args z w. Refused (z .number) → NoiseNought z)
-unfolding recordTypeAnswer
-noise-of-record-settled = (noise-of-record-single, λ κs args z w is. rw is (noise-noughts _ _))
-
-pub bars-settled : Settled 0 bars-kinds.ps bars-kinds.r bars.Post
-    (λ κs args z w. Refused (z .number) → BarsNought z)
-bars-settled = (bars-single, λ κs args z w is. rw is (bars-noughts _ _ _))
-
--- C has no enum: a noise type is told as its alpha, and bars take an alpha
-
-pub plg-noise-type-tells : Always 0 plg-noise-type-kinds.ps plg-noise-type-kinds.r plg-noise-type.Post
-    (λ κs args z w. (own : NoiseAnswer) → noise-type.Post κs args own (atExit (endedOf 0 noise-type-kinds.ps noise-type-kinds.r) κs args w) → z ≡ toldNoise own)
-plg-noise-type-tells κs args z w is own other = is ∙ sym (ap toldNoise other)
-
-pub plg-noise-type-settled : Settled 0 plg-noise-type-kinds.ps plg-noise-type-kinds.r plg-noise-type.Post
-    (λ κs args z w. Refused (z .number) → ToldNoiseNought z)
-plg-noise-type-settled = (plg-noise-type-single, λ κs args z w is. rw is (told-noise-noughts _))
-
-pub plg-noise-of-record-tells : Always 1 plg-noise-of-record-kinds.ps plg-noise-of-record-kinds.r plg-noise-of-record.Post
-    (λ κs args z w. (own : NoiseAnswer) → noise-of-record.Post κs args own (atExit (endedOf 1 noise-of-record-kinds.ps noise-of-record-kinds.r) κs args w) → z ≡ toldNoise own)
-plg-noise-of-record-tells κs args z w is own other = is ∙ sym (ap toldNoise other)
-
-pub plg-noise-of-record-settled : Settled 1 plg-noise-of-record-kinds.ps plg-noise-of-record-kinds.r plg-noise-of-record.Post
-    (λ κs args z w. Refused (z .number) → ToldNoiseNought z)
-plg-noise-of-record-settled = (plg-noise-of-record-single, λ κs args z w is. rw is (told-noise-noughts _))
-
--- an alpha stands for the type that has it
-pub plg-bars-tells : Always 0 plg-bars-kinds.ps plg-bars-kinds.r plg-bars.Post
-    (λ κs args z w. let r = args .0 in let alpha = args .1 .0 in let M = args .1 .1 .0 in
-    (t : Noise) → alpha ≡ alphaOf t → Always 0 bars-kinds.ps bars-kinds.r bars.Post
-    (λ κs′ args′ own w′. args′ .0 ≡ r → args′ .1 .0 ≡ t → args′ .1 .1 .0 ≡ M → z ≡ own))
-plg-bars-tells κs args z w is t known κs′ args′ own w′ other first type intervals =
-    is
-    ∙ ap (λ (a : ℤ). barsByAlpha (args .0) a (args .1 .1 .0)) known
-    ∙ type-by-alpha (args .0) t (args .1 .1 .0)
-    ∙ sym (other ∙ rw (first, type, intervals))
-
--- any other is refused 3 at place 0, before all else
-pub plg-bars-no-type : Always 0 plg-bars-kinds.ps plg-bars-kinds.r plg-bars.Post
-    (λ κs args z w. let alpha = args .1 .0 in ((t : Noise) → alpha ≡ alphaOf t → ⊥) → (z .number ≡ 3) × (z .place ≡ 0))
-plg-bars-no-type κs args z w is none = rw is (alpha-of-none _ _ _ none)
-
-pub plg-bars-settled : Settled 0 plg-bars-kinds.ps plg-bars-kinds.r plg-bars.Post
-    (λ κs args z w. Refused (z .number) → BarsNought z)
-plg-bars-settled = (plg-bars-single, λ κs args z w is. rw is (alpha-bars-noughts _ _ _))

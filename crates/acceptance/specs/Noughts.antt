@@ -5,36 +5,28 @@ use mathlib.Core.Bool.{false}
 use Prim.Native.Nat.{ℕ}
 use lib.IntN.{pos}
 use Rattle.record.specs.declared.CountAnswer.{CountAnswer}
-use Rattle.drift.specs.declared.DriftAnswer.{DriftAnswer}
 use Rattle.sums.specs.declared.SumAnswer.{SumAnswer}
 use Rattle.sums.specs.declared.Part.{Part}
+use Rattle.variances.specs.declared.FractionAnswer.{FractionAnswer}
+use Rattle.variances.specs.declared.DeviationAnswer.{DeviationAnswer}
+use Rattle.drift.specs.declared.DriftAnswer.{DriftAnswer}
 use Rattle.readings.specs.declared.FloatSums.{FloatSums}
-use Rattle.meter.specs.declared.Report.{Report}
-use Rattle.phr.specs.declared.ReadAnswer.{ReadAnswer}
 use Rattle.plot.specs.Drawn.{plusZero}
 use Rattle.plot.specs.Dots.{dotNumber, dotValue}
 use Rattle.plot.specs.declared.drawn.DrawnAnswer.{DrawnAnswer}
 use Rattle.plot.specs.declared.dots.Dot.the-variants.{Nought}
 use Rattle.plot.specs.declared.dots.DotAnswer.{DotAnswer}
-use Rattle.ploegelster.specs.declared.drawing.ToldDot.{ToldDot}
-use Rattle.ploegelster.specs.declared.drawing.ToldNoise.{ToldNoise}
-use Rattle.variances.specs.declared.FractionAnswer.{FractionAnswer}
-use Rattle.variances.specs.declared.DeviationAnswer.{DeviationAnswer}
 use Rattle.noise.specs.declared.Noise.the-variants.{WhitePhase}
 use Rattle.noise.specs.declared.NoiseAnswer.{NoiseAnswer}
 use Rattle.noise.specs.declared.bars.BarsAnswer.{BarsAnswer}
+use Rattle.meter.specs.declared.Report.{Report}
+use Rattle.phr.specs.declared.ReadAnswer.{ReadAnswer}
+use Rattle.ploegelster.specs.declared.drawing.ToldDot.{ToldDot}
+use Rattle.ploegelster.specs.declared.drawing.ToldNoise.{ToldNoise}
 
 -- a call is refused where the answer's number is any but 0
 abbrev pub Refused : ℕ → Type 0
 Refused number = number ≡ 0 → ⊥
-
--- ---- counts of what was written or read
-
-abbrev pub CountNought : CountAnswer → Type 0
-CountNought z = z .count ≡ 0
-
-abbrev pub ReadNought : ReadAnswer → Type 0
-ReadNought z = (z .kind ≡ 0) × (z .count ≡ 0)
 
 -- ---- sums, and answers of two parts
 
@@ -54,10 +46,21 @@ FloatNought z = PartNought (z .allan) × PartNought (z .modified)
 abbrev pub ReportNought : Report → Type 0
 ReportNought z = PartNought (z .allan) × PartNought (z .modified)
 
--- ---- drift
+-- ---- fractions and deviations
 
-abbrev pub DriftNought : DriftAnswer → Type 0
-DriftNought z = (z .p ≡ pos 0) × (z .r ≡ 0)
+abbrev pub FractionNought : FractionAnswer → Type 0
+FractionNought z = (z .high ≡ 0) × (z .low ≡ 0) × (z .denominator ≡ 0)
+
+abbrev pub DeviationNought : DeviationAnswer → Type 0
+DeviationNought z = z .deviation ≡ 0
+
+-- ---- counts of what was written or read
+
+abbrev pub CountNought : CountAnswer → Type 0
+CountNought z = z .count ≡ 0
+
+abbrev pub ReadNought : ReadAnswer → Type 0
+ReadNought z = (z .kind ≡ 0) × (z .count ≡ 0)
 
 -- ---- what is drawn: the nought of a double is plus zero
 
@@ -72,14 +75,6 @@ DotNought z = (z .dot ≡ Nought) × (dotNumber (z .dot) ≡ 0) × (dotValue (z 
 abbrev pub ToldDotNought : ToldDot → Type 0
 ToldDotNought z = (z .kind ≡ 0) × (z .value ≡ plusZero)
 
--- ---- fractions and deviations
-
-abbrev pub FractionNought : FractionAnswer → Type 0
-FractionNought z = (z .high ≡ 0) × (z .low ≡ 0) × (z .denominator ≡ 0)
-
-abbrev pub DeviationNought : DeviationAnswer → Type 0
-DeviationNought z = z .deviation ≡ 0
-
 -- ---- noise types and bars
 
 -- a type is one of five cases and none of them is nought: the first of the table stands there, and the number tells that it means nothing
@@ -92,3 +87,8 @@ ToldNoiseNought z = z .alpha ≡ pos 0
 
 abbrev pub BarsNought : BarsAnswer → Type 0
 BarsNought z = (z .bar .low ≡ plusZero) × (z .bar .mid ≡ plusZero) × (z .bar .high ≡ plusZero) × (z .touches ≡ false)
+
+-- ---- drift
+
+abbrev pub DriftNought : DriftAnswer → Type 0
+DriftNought z = (z .p ≡ pos 0) × (z .r ≡ 0)

@@ -13,27 +13,27 @@ use Rattle.laws.specs.Lists.{at}
 use Rattle.laws.specs.Sums.{sumℤ}
 use Rattle.record.specs.Refusals.{inRange}
 use Rattle.record.specs.declared.CountAnswer.{CountAnswer}
-use Rattle.drift.specs.Drift.{driftP}
-use Rattle.drift.specs.declared.DriftAnswer.{DriftAnswer}
 use Rattle.sums.specs.Published.{difference, allanSum, modifiedSum}
 use Rattle.sums.specs.declared.SumAnswer.{SumAnswer}
 use Rattle.sums.specs.declared.Part.{Part}
+use Rattle.variances.specs.Deviations.{within}
+use Rattle.variances.specs.declared.FractionAnswer.{FractionAnswer}
+use Rattle.variances.specs.declared.DeviationAnswer.{DeviationAnswer}
+use Rattle.drift.specs.Drift.{driftP}
+use Rattle.drift.specs.declared.DriftAnswer.{DriftAnswer}
 use Rattle.readings.specs.declared.FloatSums.{FloatSums}
 use Rattle.readings.specs.Readings.{Exactly}
-use Rattle.meter.specs.declared.Report.{Report}
-use Rattle.phr.specs.declared.ReadAnswer.{ReadAnswer}
 use Rattle.plot.specs.Drawn.{plusZero, GreatestDouble}
 use Rattle.plot.specs.Dots.{dotNumber, dotValue}
 use Rattle.plot.specs.declared.drawn.DrawnAnswer.{DrawnAnswer}
 use Rattle.plot.specs.declared.dots.Dot.the-variants.{Drawn, Nought}
 use Rattle.plot.specs.declared.dots.DotAnswer.{DotAnswer}
-use Rattle.variances.specs.Deviations.{within}
-use Rattle.variances.specs.declared.FractionAnswer.{FractionAnswer}
-use Rattle.variances.specs.declared.DeviationAnswer.{DeviationAnswer}
 use Rattle.noise.specs.Noise.{alphaOf, kappaOf}
 use Rattle.noise.specs.declared.Noise.{Noise}
 use Rattle.noise.specs.declared.NoiseAnswer.{NoiseAnswer}
 use Rattle.noise.specs.declared.bars.BarsAnswer.{BarsAnswer}
+use Rattle.meter.specs.declared.Report.{Report}
+use Rattle.phr.specs.declared.ReadAnswer.{ReadAnswer}
 
 -- ---- the bounds within which a figure is promised
 
@@ -82,6 +82,22 @@ pub record PartOf (total count : ℕ) (z : Part) : Type 0 where
   pub sum-is : z .high * 2 ^ 64 + z .low ≡ total
   pub count-is : z .count ≡ count
 
+-- ---- fractions and deviations
+
+-- a / d in lowest terms, nought is 0/1
+pub record FractionOf (a d : ℕ) (z : FractionAnswer) : Type 0 where
+  pub answered : z .number ≡ 0
+  pub same-value : (z .high * 2 ^ 64 + z .low) * d ≡ a * z .denominator
+  pub lowest : (c : ℕ) → c ∣ (z .high * 2 ^ 64 + z .low) → c ∣ z .denominator → c ≡ 1
+  pub nought : a ≡ 0 → (z .high * 2 ^ 64 + z .low ≡ 0) × (z .denominator ≡ 1)
+
+-- r is the greatest whole number with r^2 d not above a times 2^40; it is the answer, or that is 3 exactly where r is above 2^62
+pub record DeviationOf (a d : ℕ) (z : DeviationAnswer) : Type 0 where
+  pub r : ℕ
+  pub greatest : Greatest (within a d) r
+  pub given : r ≤ 2 ^ 62 → (z .number ≡ 0) × (z .deviation ≡ r)
+  pub above : 2 ^ 62 < r → z .number ≡ 3
+
 -- ---- phase and frequency
 
 -- readings whose phases are in range, with room for these
@@ -116,28 +132,6 @@ pub record BackAndForth (xs left : List ℤ) (z : CountAnswer) : Type 0 where
   pub refused-first : (i : ℕ) → i + 1 < length xs → ((k : ℕ) → k < i → inRange (at xs (k + 1) -ℤ at xs 0) ≡ true) →
       inRange (at xs (i + 1) -ℤ at xs 0) ≡ false → (z .number ≡ 3) × (z .place ≡ i)
 
--- ---- drift
-
--- a record that has a drift
-pub record Drifting (xs : List ℤ) : Type 0 where
-  pub enough : 3 ≤ length xs
-  pub few : length xs ≤ 32768
-  pub in-range : (k : ℕ) → k < length xs → inRange (at xs k) ≡ true
-
--- P = (x_(N-1) - x_(N-2)) - (x_1 - x_0), the sum of all second differences at factor 1; R = N-2
-pub record DriftOf (xs : List ℤ) (z : DriftAnswer) : Type 0 where
-  pub answered : z .number ≡ 0
-  pub p-is : z .p ≡ (at xs (length xs - 1) -ℤ at xs (length xs - 2)) -ℤ (at xs 1 -ℤ at xs 0)
-  pub p-sums : z .p ≡ sumℤ (length xs - 2) (difference 1 xs)
-  pub r-is : z .r ≡ length xs - 2
-
--- removal takes q off sample i, the floor of P i (i-1) / (2R) toward minus infinity: 2R q is not above P i (i-1), 2R (q+1) is
-pub record DriftRemoved (xs left : List ℤ) (z : CountAnswer) : Type 0 where
-  pub answered : z .number ≡ 0
-  pub count-is : z .count ≡ length xs
-  pub not-above : (i : ℕ) → i < length xs → ((at xs i -ℤ at left i) *ℤ pos (2 * (length xs - 2))) ≤ℤ (driftP xs *ℤ pos (i * (i - 1)))
-  pub next-above : (i : ℕ) → i < length xs → (driftP xs *ℤ pos (i * (i - 1))) <ℤ (((at xs i -ℤ at left i) +ℤ pos 1) *ℤ pos (2 * (length xs - 2)))
-
 -- ---- float readings
 
 -- sample k has the exact value of reading k; the sums are the published ones of the samples that were written
@@ -147,25 +141,6 @@ pub record FloatSumsOf (m : ℕ) (xs : List Float) (left : List ℤ) (z : FloatS
   pub allan : PartOf (allanSum m (take (length xs) left)) (length xs - 2 * m) (z .allan)
   pub modified : 3 * m ≤ length xs → PartOf (modifiedSum m (take (length xs) left)) (length xs - 3 * m + 1) (z .modified)
   pub modified-short : length xs < 3 * m → z .modified .number ≡ 1
-
--- ---- the running meter
-
--- a report: A with n-2m and B with n-3m+1, worked directly over the samples accepted, each apart, or 1 for the one that is not yet due
-pub record ReportOf (m : ℕ) (accepted : List ℤ) (z : Report) : Type 0 where
-  pub answered : z .number ≡ 0
-  pub allan : 2 * m + 1 ≤ length accepted → PartOf (allanSum m accepted) (length accepted - 2 * m) (z .allan)
-  pub allan-not-due : length accepted < 2 * m + 1 → z .allan .number ≡ 1
-  pub modified : 3 * m ≤ length accepted → PartOf (modifiedSum m accepted) (length accepted - 3 * m + 1) (z .modified)
-  pub modified-not-due : length accepted < 3 * m → z .modified .number ≡ 1
-
--- ---- the record file
-
--- what is read is the kind and the values
-pub record ReadsBack (kind : ℕ) (values left : List ℤ) (z : ReadAnswer) : Type 0 where
-  pub answered : z .number ≡ 0
-  pub kind-is : z .kind ≡ kind
-  pub count-is : z .count ≡ length values
-  pub values-are : take (length values) left ≡ values
 
 -- ---- drawn numbers and dots
 
@@ -181,22 +156,6 @@ pub record DotOf (a d : ℕ) (z : DotAnswer) : Type 0 where
   pub greatest : Greatest (within a d) r
   pub nought : r ≡ 0 → (z .number ≡ 0) × (z .dot ≡ Nought) × (dotNumber (z .dot) ≡ 0) × (dotValue (z .dot) ≡ plusZero)
   pub drawn : 1 ≤ r → r ≤ 2 ^ 62 → (z .number ≡ 0) × (z .dot ≡ Drawn (dotValue (z .dot))) × (dotNumber (z .dot) ≡ 0) × GreatestDouble r (dotValue (z .dot))
-  pub above : 2 ^ 62 < r → z .number ≡ 3
-
--- ---- fractions and deviations
-
--- a / d in lowest terms, nought is 0/1
-pub record FractionOf (a d : ℕ) (z : FractionAnswer) : Type 0 where
-  pub answered : z .number ≡ 0
-  pub same-value : (z .high * 2 ^ 64 + z .low) * d ≡ a * z .denominator
-  pub lowest : (c : ℕ) → c ∣ (z .high * 2 ^ 64 + z .low) → c ∣ z .denominator → c ≡ 1
-  pub nought : a ≡ 0 → (z .high * 2 ^ 64 + z .low ≡ 0) × (z .denominator ≡ 1)
-
--- r is the greatest whole number with r^2 d not above a times 2^40; it is the answer, or that is 3 exactly where r is above 2^62
-pub record DeviationOf (a d : ℕ) (z : DeviationAnswer) : Type 0 where
-  pub r : ℕ
-  pub greatest : Greatest (within a d) r
-  pub given : r ≤ 2 ^ 62 → (z .number ≡ 0) × (z .deviation ≡ r)
   pub above : 2 ^ 62 < r → z .number ≡ 3
 
 -- ---- noise types and bars
@@ -228,3 +187,44 @@ pub record BarsOf (r : ℕ) (t : Noise) (m : ℕ) (z : BarsAnswer) : Type 0 wher
   pub high : GreatestDouble (r + h) (z .bar .high)
   pub low : h < r → GreatestDouble (r - h) (z .bar .low) × (z .touches ≡ false)
   pub low-nought : r ≤ h → (z .bar .low ≡ plusZero) × (z .touches ≡ true)
+
+-- ---- drift
+
+-- a record that has a drift
+pub record Drifting (xs : List ℤ) : Type 0 where
+  pub enough : 3 ≤ length xs
+  pub few : length xs ≤ 32768
+  pub in-range : (k : ℕ) → k < length xs → inRange (at xs k) ≡ true
+
+-- P = (x_(N-1) - x_(N-2)) - (x_1 - x_0), the sum of all second differences at factor 1; R = N-2
+pub record DriftOf (xs : List ℤ) (z : DriftAnswer) : Type 0 where
+  pub answered : z .number ≡ 0
+  pub p-is : z .p ≡ (at xs (length xs - 1) -ℤ at xs (length xs - 2)) -ℤ (at xs 1 -ℤ at xs 0)
+  pub p-sums : z .p ≡ sumℤ (length xs - 2) (difference 1 xs)
+  pub r-is : z .r ≡ length xs - 2
+
+-- removal takes q off sample i, the floor of P i (i-1) / (2R) toward minus infinity: 2R q is not above P i (i-1), 2R (q+1) is
+pub record DriftRemoved (xs left : List ℤ) (z : CountAnswer) : Type 0 where
+  pub answered : z .number ≡ 0
+  pub count-is : z .count ≡ length xs
+  pub not-above : (i : ℕ) → i < length xs → ((at xs i -ℤ at left i) *ℤ pos (2 * (length xs - 2))) ≤ℤ (driftP xs *ℤ pos (i * (i - 1)))
+  pub next-above : (i : ℕ) → i < length xs → (driftP xs *ℤ pos (i * (i - 1))) <ℤ (((at xs i -ℤ at left i) +ℤ pos 1) *ℤ pos (2 * (length xs - 2)))
+
+-- ---- the running meter
+
+-- a report: A with n-2m and B with n-3m+1, worked directly over the samples accepted, each apart, or 1 for the one that is not yet due
+pub record ReportOf (m : ℕ) (accepted : List ℤ) (z : Report) : Type 0 where
+  pub answered : z .number ≡ 0
+  pub allan : 2 * m + 1 ≤ length accepted → PartOf (allanSum m accepted) (length accepted - 2 * m) (z .allan)
+  pub allan-not-due : length accepted < 2 * m + 1 → z .allan .number ≡ 1
+  pub modified : 3 * m ≤ length accepted → PartOf (modifiedSum m accepted) (length accepted - 3 * m + 1) (z .modified)
+  pub modified-not-due : length accepted < 3 * m → z .modified .number ≡ 1
+
+-- ---- the record file
+
+-- what is read is the kind and the values
+pub record ReadsBack (kind : ℕ) (values left : List ℤ) (z : ReadAnswer) : Type 0 where
+  pub answered : z .number ≡ 0
+  pub kind-is : z .kind ≡ kind
+  pub count-is : z .count ≡ length values
+  pub values-are : take (length values) left ≡ values
