@@ -5,7 +5,6 @@ use Prim.Native.Nat.{ℕ, _-_, _^_, _/_, _%_}
 use lib.Dec.{eqb}
 use lib.IntN.{ℤ, pos, negsuc}
 use lib.Signed.{leZ}
-use lib.ListN.{length}
 use Rattle.frequency.specs.Frequency.{phases}
 use Rattle.drift.specs.Drift.{driftAnswer, withoutDrift}
 use Rattle.sums.specs.Answers.{allanSumAnswer, modifiedSumAnswer}

@@ -14,14 +14,13 @@ use mir.Syntax.{w64}
 use mir.Val.{ofZ, toZ, SFits}
 use Rattle.laws.specs.Lists.{at, firstFailing, written}
 use Rattle.laws.specs.Sums.{sumℤ}
-use Rattle.laws.proofs.ListLaws.{tabulate-length, tabulate-entry, search-goes-on, search-ends-here, search-ends, first-failing-within, none-fails, all-pass, writtenSoFar, written-one-more, written-whole}
+use Rattle.laws.proofs.ListLaws.{tabulate-length, tabulate-entry, search-goes-on, search-ends-here, search-ends, first-failing-within, all-pass, writtenSoFar, written-one-more, written-whole}
 use Rattle.laws.proofs.SumLaws.{sumℤ-zero, sumℤ-suc, sumℤ-step}
 use Rattle.laws.proofs.Parts.{one-part, +ℤ-parts, size-is, small-fits}
 use Rattle.laws.proofs.Expressions.{Expression, $_, ±_, _∋_, _⊕_, _⊖_}
 use Rattle.laws.proofs.Machine.{Fit, machine, result, machine-is, result-is, argument, LeavesFit, argument-is, lt-taken, lt-left}
 use Rattle.record.specs.Refusals.{none, refused, inRange, rangeRefusal}
 use Rattle.frequency.specs.Frequency.{phases, phasesFrom, firstLeaving, phaseRefusal, differences, frequencyRefusal}
-use Rattle.record.specs.declared.Refusal.{Refusal}
 use Rattle.record.proofs.RangeLaws.{sample-bounded}
 use Rattle.record.proofs.RefusalLaws.{range-bounded}
 

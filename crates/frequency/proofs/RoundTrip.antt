@@ -1,4 +1,4 @@
--- What phase from frequency and frequency from phase make of each other's output, and the buffer's entries past an output.
+-- What phase from frequency and frequency from phase make of each other's output.
 use mathlib.Core.Path.{_≡_, sym, ap, _∙_}
 use mathlib.Core.Bool.{true, false}
 use mathlib.Core.List.{List}
@@ -12,11 +12,9 @@ use Rattle.laws.proofs.ListLaws.{tabulate-length, tabulate-entry, tabulate-equa
 use Rattle.laws.proofs.SumLaws.{sumℤ-step, sumℤ-equal, sumℤ-telescopes}
 use Rattle.laws.proofs.Expressions.{$_, _⊕_, _⊖_, equation}
 use Rattle.record.specs.Refusals.{none, refused, inRange}
-use Rattle.record.specs.Answers.{bufferLeft}
 use Rattle.frequency.specs.Frequency.{phases, phasesFrom, firstLeaving, phaseRefusal, differences, frequencyRefusal}
 use Rattle.record.proofs.RangeLaws.{bounded-sample}
 use Rattle.record.proofs.RefusalLaws.{all-in-range}
-use Rattle.record.proofs.AnswerLaws.{past-unchanged}
 use Rattle.frequency.proofs.FrequencyLaws.{running, phases-length, phase-is, differences-length, difference-is, phase-in-range, reading-leaves, phases-unrefused, range-decides}
 
 -- ---- phase to frequency to phase: x_i - x_0
@@ -99,13 +97,3 @@ module _ (ys : List ℤ) where
       stays k h =
           let inside : k ≤ length ys = omega (arith, phases-length ys) in
           bounded-sample _ (rw (phase-is ys k inside) (phase-in-range ys stay k inside))
-
--- ---- entries of the buffer past M + 1 phases and past N - 1 differences
-
-pub past-the-phases : (ys buffer : List ℤ) (i : ℕ) → length ys + 1 ≤ i →
-    at (bufferLeft (phaseRefusal ys (length buffer)) (phases ys) buffer) i ≡ at buffer i
-past-the-phases ys buffer i h = past-unchanged _ (phases ys) buffer i (pos 0) (omega (arith, phases-length ys))
-
-pub past-the-differences : (xs buffer : List ℤ) (i : ℕ) → length xs - 1 ≤ i →
-    at (bufferLeft (frequencyRefusal xs (length buffer)) (differences xs) buffer) i ≡ at buffer i
-past-the-differences xs buffer i h = past-unchanged _ (differences xs) buffer i (pos 0) (omega (arith, differences-length xs))

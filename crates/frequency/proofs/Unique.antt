@@ -1,5 +1,5 @@
 -- Each contract of this crate leaves one answer: any two results that it allows of the same arguments are equal.
-use mathlib.Core.Path.{refl, sym, _∙_}
+use mathlib.Core.Path.{sym, _∙_}
 use Rattle.laws.proofs.Single.{Single}
 use Rattle.frequency.proofs.phase_from_frequency.Reads as phase-from-frequency
 use Rattle.frequency.proofs.phase_from_frequency.Kinds as phase-from-frequency-kinds

@@ -6,9 +6,8 @@ use Prim.Native.Nat.{ℕ, zero, suc, _+_, _-_, _≤_, _<_}
 use native.Mathlib.Nat.{add-zero, le-of-lt}
 use native.Mathlib.Numerals.{add-one}
 use native.Mathlib.Omega.{arith}
-use borrow.Author.Count.{below-more}
 use lib.ListN.{length, getD, take, drop, set, length-append, length-drop, List·getD-append}
-use lib.Seq.{drop-cons, drop-length, length-take-le, take-length, take-suc, append-snoc, set-at, getD-set-same, getD-set-other, getD-append-add, getD-drop}
+use lib.Seq.{drop-cons, drop-length, length-take-le, take-length, take-suc, append-snoc, set-at, getD-append-add, getD-drop}
 use Rattle.laws.specs.Lists.{tabulate, firstFailing, written}
 use Rattle.laws.proofs.Tests.{choice-true, choice-false}
 
@@ -125,9 +124,6 @@ module _ {A : Type 0} (out buffer : List A) where
   pub written-whole : (i : ℕ) → i ≡ length out → writtenSoFar i out buffer ≡ written out buffer
   written-whole i e = rw (e, take-length)
 
-  pub written-length : length out ≤ length buffer → length (written out buffer) ≡ length buffer
-  written-length h = omega (arith, length-append out (drop (length out) buffer), length-drop (length out) buffer)
-
   pub written-front : (i : ℕ) (z : A) → i < length out → getD (written out buffer) i z ≡ getD out i z
   written-front i z h = List·getD-append out (drop (length out) buffer) z i h
 
@@ -136,12 +132,3 @@ module _ {A : Type 0} (out buffer : List A) where
   written-past i z h =
       let beyond : i ≡ length out + (i - length out) = omega arith in
       rw (beyond, getD-append-add out (drop (length out) buffer) (i - length out) z, getD-drop (length out) buffer (i - length out) z)
-
--- ---- a list whose entries below i are as they have to be, and entry i is stored
-
-module _ {A : Type 0} (P : ℕ → A → Type 0) (xs : List A) (i : ℕ) (z v : A) where
-  pub stored-one-more : i < length xs → P i v → ((k : ℕ) → k < i → P k (getD xs k z)) → (k : ℕ) → k < i + 1 → P k (getD (set xs i v) k z)
-  stored-one-more inside here below =
-      below-more (λ k. P k (getD (set xs i v) k z)) i
-      (λ k h. rw (getD-set-other xs i k v z (λ e. omega arith)) (below k h))
-      (rw (getD-set-same xs i v z inside) here)

@@ -59,9 +59,6 @@ pub second-true : (s t : Bool) → (s && t) ≡ true → t ≡ true
 second-true true t e = e
 second-true false t e = absurd (false≢true e)
 
-pub first-fails : {s : Bool} (t : Bool) → s ≡ false → (s && t) ≡ false
-first-fails t e = rw e
-
 pub second-fails : (s : Bool) {t : Bool} → t ≡ false → (s && t) ≡ false
 second-fails true e = e
 second-fails false e = refl

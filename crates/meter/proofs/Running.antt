@@ -1,12 +1,12 @@
 -- A meter that was started at factor m and has taken samples h is one function of m and h: it takes every sample in range, and its report is the
 -- published one.
 use mathlib.Core.Path.{_≡_, refl, sym, ap, ap₂, _∙_}
-use mathlib.Core.Bool.{Bool, true, false, cond, not}
+use mathlib.Core.Bool.{true, not}
 use mathlib.Core.List.{List, [], _∷_, _++_}
 use Prim.Native.Nat.{ℕ, _+_, _-_, _*_, _%_, _^_, _≤_, _<_}
 use native.Mathlib.Omega.{arith}
 use borrow.Author.Count.{below-more}
-use borrow.Author.Tests.{le-leb, lt-ltb, le-ltb, leb-true, leb-false, ltb-false, eqb-false, ne-eqb, not-false}
+use borrow.Author.Tests.{le-leb, lt-ltb, le-ltb, leb-true, ltb-false, eqb-false, ne-eqb, not-false}
 use lib.Dec.{leb, ltb, eqb}
 use lib.IntN.{ℤ, natAbs, _+ℤ_, _-ℤ_}
 use lib.ListN.{length, length-set}

@@ -1,12 +1,12 @@
 -- What one sample more at the end of a stream does to its published sums, and to the sum of its latest second differences.
 use mathlib.Core.Path.{_≡_, refl, sym, ap, ap₂, _∙_}
 use mathlib.Core.List.{List, [], _∷_, _++_}
-use Prim.Native.Nat.{ℕ, _+_, _-_, _*_, _/_, _%_, _^_, _≤_, _<_}
+use Prim.Native.Nat.{ℕ, _+_, _-_, _*_, _^_, _≤_, _<_}
 use native.Mathlib.Omega.{arith}
 use lib.IntN.{ℤ, pos, natAbs, _+ℤ_, _-ℤ_}
 use lib.ListN.{length, length-append, List·getD-append}
 use lib.Seq.{getD-append-seam}
-use Rattle.laws.specs.Sums.{sumℤ, square}
+use Rattle.laws.specs.Sums.{square}
 use Rattle.laws.specs.Lists.{at}
 use Rattle.laws.proofs.LatestLaws.{latestOf, latest-of-none, latest-of-equal, latest-of-within, latest-of-grows, latest-of-slides}
 use Rattle.laws.proofs.SumLaws.{sum-zero, sum-equal, sumℤ-equal}

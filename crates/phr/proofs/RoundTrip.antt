@@ -17,7 +17,7 @@ use Rattle.record.specs.Answers.{bufferLeft}
 use Rattle.record.specs.Refusals.{none}
 use Rattle.record.specs.declared.Refusal.{Refusal}
 use Rattle.phr.specs.Bytes.{lowFirst, valueBytes, valuesBytes, valueAt}
-use Rattle.phr.specs.File.{header, fileOf, mostValues, valueInRange, Proper, IsFile, AreBytes}
+use Rattle.phr.specs.File.{header, fileOf, Proper, IsFile, AreBytes}
 use Rattle.phr.specs.Reading.{headerTests, soundUpTo, kindOf, countOf, rightLength, valuesFrom, valuesOf, readRefusal, readAnswer}
 use Rattle.phr.specs.Writing.{writeRefusal}
 use Rattle.phr.proofs.ByteLaws.{front-entries, low-first-bytes, bytes-more, bytes-joined}

@@ -10,7 +10,7 @@ use lib.IntN.{ℤ, pos, negsuc, natAbs}
 use lib.Signed.{mag, ltZ, nonNeg}
 use mir.Syntax.{w64}
 use mir.Val.{SFits, Fits, toZ, ofZ, sel}
-use mir.Facts.{fits-ofZ, toZ-ofZ, ofZ-toZ, sfits-toZ}
+use mir.Facts.{fits-ofZ, toZ-ofZ, ofZ-toZ}
 use Rattle.laws.proofs.Parts.{plus, minus, one-part, parts-of-fits}
 use Rattle.laws.proofs.Expressions.{Expression, $_, ±_, #_, _∋_, _⊕_, _⊖_, _⊏_, _⊑_, equation}
 use Rattle.laws.proofs.Machine.{Fit, machine, machine-is, lt-taken, lt-left, cast-is, cast-fits}
@@ -41,9 +41,6 @@ twos-complement-back z f = rw (twos-complement-is, signed-is) (toZ-ofZ f)
 
 pub signed-back : (n : ℕ) → n < 2 ^ 64 → twosComplement (signed n) ≡ n
 signed-back n h = rw (twos-complement-is, signed-is) (ofZ-toZ {w = w64} (record { fits = h }))
-
-pub signed-fits : (n : ℕ) → n < 2 ^ 64 → SFits w64 (signed n)
-signed-fits n h = rw signed-is (sfits-toZ {w = w64} (record { fits = h }))
 
 -- ---- a word with its top bit set stands for -(2^64 - 1 - n) - 1
 

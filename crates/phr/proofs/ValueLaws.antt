@@ -17,7 +17,7 @@ use Rattle.phr.specs.Bytes.{lowFirst, fromLowFirst, twosComplement, sign
 use Rattle.phr.specs.Reading.{valuesFrom}
 use Rattle.phr.specs.File.{AreBytes}
 use Rattle.phr.proofs.ByteLaws.{writtenFrom, written-from-none, written-from-next, stores-from, bytes-taken, bytes-dropped, bytes-joined, low-first-length, low-first-bytes, low-first-back, from-low-first-below, from-low-first-back, from-low-first-append}
-use Rattle.phr.proofs.SignLaws.{twos-complement-below, twos-complement-back, signed-back, signed-fits, loaded-value}
+use Rattle.phr.proofs.SignLaws.{twos-complement-below, twos-complement-back, signed-back, loaded-value}
 
 -- ---- the number that bytes from a place on make
 
@@ -101,10 +101,6 @@ module _ (bytes : List ℕ) (place : ℕ) (all : AreBytes bytes) (inside : place
       let there : length eight ≡ 8 = bytes-there bytes place 8 inside in
       rw (signed-back (fromLowFirst eight) (bytes-make-below bytes place 8 inside all))
       (ap (λ (k : ℕ). lowFirst k (fromLowFirst eight)) (sym there) ∙ from-low-first-back eight (bytes-taken 8 (drop place bytes) (bytes-dropped place bytes all)))
-
-  pub value-fits : SFits w64 (valueAt bytes place)
-  unfolding valueAt
-  value-fits = signed-fits _ (bytes-make-below bytes place 8 inside all)
 
 -- ---- values one after the other
 

@@ -3,7 +3,6 @@ use mathlib.Core.Bool.{false, cond}
 use Prim.Native.Nat.{ℕ, zero, suc}
 use lib.Dec.{eqb}
 use lib.IntN.{ℤ, pos, negsuc}
-use Rattle.plot.specs.Drawn.{plusZero}
 use Rattle.plot.specs.Dots.{dotValue}
 use Rattle.noise.specs.Noise.{alphaOf}
 use Rattle.noise.specs.Bars.{noBar, barsAnswer}

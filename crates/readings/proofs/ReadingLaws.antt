@@ -1,22 +1,18 @@
 -- What a float reading becomes, told by its exact value: the sample of the same value, 3 beyond the range, otherwise 4.
 use mathlib.Core.Path.{_≡_, refl, sym, ap, _∙_}
 use mathlib.Core.Bool.{Bool, true, false, cond}
-use mathlib.Core.List.{List}
 use Prim.Native.Nat.{ℕ, _+_, _*_, _/_, _%_, _^_, _≤_, _<_}
 use native.Mathlib.Nat.{add-zero, mul-right-comm, mul-mod-left, div-add-mod', eq-of-mul-eq-mul-right, mul-lt-mul-of-pos-right, lt-of-mul-lt-mul-right}
 use native.Mathlib.Omega.{arith}
-use borrow.Author.Tests.{ltb-true, lt-ltb, le-ltb, eq-eqb, ne-eqb, eqb-true, eqb-false}
+use borrow.Author.Tests.{ltb-true, lt-ltb, le-ltb, eq-eqb, ne-eqb, eqb-true}
 use lib.Dec.{ltb, eqb}
-use lib.IntN.{ℤ, pos, negℤ, natAbs}
+use lib.IntN.{ℤ, pos, negℤ}
 use lib.Ieee.{Float, nan, inf, fin, binary64, up, down, ofBits}
 use lib.Ieee.Fits.{down-pos}
 use lib.Ieee.Exact.{HasValue}
-use lib.ListN.{length, getD}
 use Rattle.laws.proofs.Tests.{choice-true, choice-false, tests-agree}
-use Rattle.laws.proofs.ListLaws.{passes-before, fails-there}
-use Rattle.readings.specs.Readings.{readingNumber, sampleOf, firstBad, Exactly}
+use Rattle.readings.specs.Readings.{readingNumber, sampleOf, Exactly}
 use Rattle.readings.proofs.FloatTests.{sample-within, within-by-fraction, signed-size}
-use Rattle.readings.proofs.RefusalLaws.{isSample}
 
 -- ---- readings that are told by their bits or their kind
 
@@ -103,14 +99,3 @@ sample-exact (fin s m e) number =
       value = (refl, omega (arith, div-add-mod' (m * up e) (down e), ap (λ (n : ℕ). n * down e) size));
       signed = ap (λ (n : ℕ). cond s (negℤ (pos n)) (pos n)) (sym size);
     }
-
--- ---- the lowest index
-
-module _ (xs : List Float) where
-  pub samples-before : (k : ℕ) → k < firstBad xs → readingNumber (getD xs k nan) ≡ 0
-  unfolding firstBad
-  samples-before k h = eqb-true _ 0 (passes-before isSample nan xs k h)
-
-  pub first-bad-is-no-sample : firstBad xs < length xs → readingNumber (getD xs (firstBad xs) nan) ≡ 0 → ⊥
-  unfolding firstBad
-  first-bad-is-no-sample h e = eqb-false _ 0 (fails-there isSample nan xs h) e

@@ -8,7 +8,6 @@ use borrow.Author.Tests.{ne-eqb}
 use lib.Dec.{eqb}
 use lib.ListN.{length, getD}
 use Rattle.laws.specs.Lists.{written}
-use Rattle.laws.proofs.Tests.{choice-false}
 use Rattle.laws.proofs.ListLaws.{written-past}
 use Rattle.record.specs.Refusals.{none, refused}
 use Rattle.record.specs.Answers.{countAnswer, bufferLeft}
@@ -31,11 +30,6 @@ module _ {A : Type 0} (count : ℕ) (out buffer : List A) where
 -- ---- entries of the buffer
 
 module _ {A : Type 0} (r : Refusal) (out buffer : List A) where
-  -- nothing is written where the call is refused
-  pub refused-unchanged : 0 < r .number → bufferLeft r out buffer ≡ buffer
-  unfolding bufferLeft
-  refused-unchanged h = choice-false (written out buffer) buffer (ne-eqb (r .number) 0 (λ z. omega arith))
-
   -- the entries past the output are as they were, refused or not
   pub past-unchanged : (i : ℕ) (z : A) → length out ≤ i → getD (bufferLeft r out buffer) i z ≡ getD buffer i z
   unfolding bufferLeft

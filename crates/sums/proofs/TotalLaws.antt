@@ -3,13 +3,12 @@ use mathlib.Core.Path.{_≡_, sym, ap, _∙_}
 use mathlib.Core.List.{List}
 use Prim.Native.Nat.{ℕ, _+_, _*_, _^_, _≤_, _<_}
 use native.Mathlib.Omega.{arith}
-use lib.IntN.{ℤ, pos, natAbs}
+use lib.IntN.{ℤ, natAbs}
 use lib.ListN.{length}
 use mir.Syntax.{w64}
 use mir.Val.{ofZ, toZ}
 use Rattle.laws.specs.Sums.{sum, square}
 use Rattle.laws.specs.Lists.{at}
-use Rattle.laws.proofs.ListLaws.{none-fails}
 use Rattle.laws.proofs.SumLaws.{sum-step}
 use Rattle.laws.proofs.Parts.{size-is, small-fits}
 use Rattle.laws.proofs.Expressions.{Expression, _∋_, _⊕_, _⊖_}
@@ -17,9 +16,7 @@ use Rattle.laws.proofs.Machine.{Fit, machine, result, read-back, machine-is, re
 use Rattle.wide.specs.Wide.{halves, wideSum}
 use Rattle.wide.specs.declared.Wide.{Wide}
 use Rattle.wide.proofs.WideLaws.{sum-grows}
-use Rattle.record.specs.Refusals.{none, inRange, rangeRefusal, recordRefusal}
-use Rattle.record.specs.declared.Refusal.{Refusal}
-use Rattle.record.specs.declared.Demand.{Demand}
+use Rattle.record.specs.Refusals.{none, rangeRefusal, recordRefusal}
 use Rattle.record.proofs.RefusalLaws.{none-sound, Sound, range-bounded}
 use Rattle.sums.specs.Published.{difference, windowSum}
 use Rattle.sums.specs.Answers.{allanDemand, modifiedDemand}

@@ -108,9 +108,6 @@ module _ (s m count : ℕ) where
   unfolding allanDeviationAnswer
   allan-deviation-by-size allowed = figure-allowed s m count allanDeviation allowed
 
-  pub allan-deviation-above : Allowed s m count → 2 ^ 62 < allanDeviation → allanDeviationAnswer s m count ≡ noDeviation (refused 3 0)
-  allan-deviation-above allowed above = allan-deviation-by-size allowed ∙ above-refused allanDeviation above
-
   pub allan-deviation-given : Allowed s m count → allanDeviation ≤ 2 ^ 62 → allanDeviationAnswer s m count ≡ givenDeviation allanDeviation
   allan-deviation-given allowed most = allan-deviation-by-size allowed ∙ not-above-given allanDeviation most
 
@@ -121,9 +118,6 @@ module _ (s m count : ℕ) where
   pub time-deviation-by-size : Allowed s m count → timeDeviationAnswer s m count ≡ deviationAnswer (largeRefusal timeDeviation) timeDeviation
   unfolding timeDeviationAnswer
   time-deviation-by-size allowed = figure-allowed s m count timeDeviation allowed
-
-  pub time-deviation-above : Allowed s m count → 2 ^ 62 < timeDeviation → timeDeviationAnswer s m count ≡ noDeviation (refused 3 0)
-  time-deviation-above allowed above = time-deviation-by-size allowed ∙ above-refused timeDeviation above
 
   pub time-deviation-given : Allowed s m count → timeDeviation ≤ 2 ^ 62 → timeDeviationAnswer s m count ≡ givenDeviation timeDeviation
   time-deviation-given allowed most = time-deviation-by-size allowed ∙ not-above-given timeDeviation most

@@ -25,12 +25,6 @@ value-of-sum a b below = ap value (sum-is-halves a b below) ∙ value-of-halves 
 pub below-top : {n : ℕ} → n < 2 ^ 126 → n < 2 ^ 128
 below-top below = lt-of-lt-of-le below (lit≤ tt)
 
-pub small-sum-is-halves : (a b : Wide) → value a + value b < 2 ^ 126 → wideSum a b ≡ halves (value a + value b)
-small-sum-is-halves a b below = sum-is-halves a b (below-top below)
-
-pub value-of-small-sum : (a b : Wide) → value a + value b < 2 ^ 126 → value (wideSum a b) ≡ value a + value b
-value-of-small-sum a b below = value-of-sum a b (below-top below)
-
 -- the sum of the halves of two numbers
 pub sum-of-halves : (m n : ℕ) → m + n < 2 ^ 126 → wideSum (halves m) (halves n) ≡ halves (m + n)
 sum-of-halves m n below =

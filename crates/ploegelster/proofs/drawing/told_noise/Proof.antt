@@ -1,8 +1,6 @@
 -- `ploegelster::drawing::told_noise` meets its contract.
 use borrow.Author.Needs.{needs}
-use mathlib.Core.Path.{sym, ap}
 use borrow.Author.Tests.{eq-eqb, ne-eqb}
-use lib.IntN.{ℤ}
 use mir.Syntax.{w64}
 use Rattle.laws.proofs.Machine.{read-back}
 use Rattle.ploegelster.specs.Boundary.{toldNoise}

@@ -1,6 +1,6 @@
 -- `printed::rounding::rounded` meets its contract: what is rounded up had a rest, so that one more fits.
 use borrow.Author.Needs.{needs}
-use Prim.Native.Nat.{ℕ, _+_, _-_, _*_, _/_, _%_, _≤_, _<_}
+use Prim.Native.Nat.{ℕ, _+_, _-_, _/_, _%_, _≤_}
 use native.Mathlib.Nat.{mod-lt, div-add-mod', le-mul-of-pos-right}
 use native.Mathlib.Omega.{arith}
 use Rattle.printed.proofs.rounding.rounded.Statement.{statement}
