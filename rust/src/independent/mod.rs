@@ -1,5 +1,5 @@
 //! A second implementation of the outline, in plain Rust with whole numbers of 128 bits. Nothing here is shared with the library: it was written
-//! from the outline alone, so that the two can be compared.
+//! from the outline and the project's documents, with no look at the library's code or definitions, so that the two can be compared.
 
 pub mod drawn;
 pub mod drift;
