@@ -201,13 +201,40 @@ def rust_functions(house):
     return set(re.findall(r"\bfn (\w+)", "".join(blocks))), " ".join(paths) or "rust/"
 
 
-def refusal_rows(house, path):
-    """The names of the first column of each table that says what is refused."""
-    found = set()
+def refusal_orders(house, path):
+    """Each table that says what is refused: the functions of its first column, with the numbers in their order."""
+    found = {}
     for header, rows in tables(house.text(path)):
-        if any(cell.startswith("refuses") for cell in header):
-            found |= {name for _, row in rows for name in re.findall(r"`([^`]+)`", row[0])}
+        at = [i for i, cell in enumerate(header) if cell.startswith("refuses")]
+        for _, row in rows if at else []:
+            for name in re.findall(r"`([^`]+)`", row[0]):
+                found[name] = re.findall(r"(?:^|[,;] |then | or )([1-9])\b", row[at[0]])
     return found
+
+
+def entry_orders(house):
+    """The same of docs/STATEMENTS.md by the names in C, where a function that refuses otherwise in C has its own row."""
+    found = refusal_orders(house, STATEMENTS)
+    exported = {name: order for name, order in found.items() if name.startswith("plg_")}
+    return {"plg_" + name.replace("::", "_").lower(): order for name, order in found.items() if name not in exported} | exported
+
+
+def header_orders(house):
+    """The same of the comments of the header."""
+    found, before = {}, []
+    for comment, name in re.findall(r"/\*\*((?:(?!\*/).)*)\*/\s*\w+ (plg_\w+)\(", house.text(HEADER), re.S):
+        said = re.sub(r"\([^()]*(?:\([^()]*\)[^()]*)*\)|\bnever \d", "", comment.partition("Refuses ")[2])
+        before = found[name] = before if said.startswith("as the") else re.findall(r"\b[1-9]\b", said)
+    return found
+
+
+def check_orders(house):
+    """What is refused, in which order, is said alike in the rules, the statements and the header."""
+    rules = refusal_orders(house, RULES)
+    for path, orders in ((STATEMENTS, entry_orders(house)), (HEADER, header_orders(house))):
+        for name in sorted(rules.keys() & orders.keys()):
+            if rules[name] != orders[name]:
+                house.lack(f"{name} refuses {', '.join(rules[name])} by {RULES}, and {', '.join(orders[name])} by {path}")
 
 
 def compare(house, exported, others, where):
@@ -225,9 +252,10 @@ def check_exports(house, functions):
     declared, path = rust_functions(house)
     compare(house, exported, declared, f"declared in {path}")
     if house.text(RULES):
-        compare(house, exported, refusal_rows(house, RULES), f"in a table of refusals of {RULES}")
-    entries = {"plg_" + name.replace("::", "_").lower() for name in refusal_rows(house, STATEMENTS)}
-    compare(house, exported, entries, f"in a table of refusals of {STATEMENTS}")
+        compare(house, exported, set(refusal_orders(house, RULES)), f"in a table of refusals of {RULES}")
+    compare(house, exported, set(entry_orders(house)), f"in a table of refusals of {STATEMENTS}")
+    compare(house, exported, set(header_orders(house)), f"told of in a comment of {HEADER}")
+    check_orders(house)
 
 
 # ---- the header's types
@@ -242,18 +270,18 @@ def c_structs(house):
     return found
 
 
-def c_shape(structs, kind):
-    """A C type by the machine's types: a struct is its fields."""
+def c_layout(structs, kind, name=""):
+    """A C type as it lies in memory: the names and types of its innermost fields, in their order."""
     if kind in structs:
-        return [(name, c_shape(structs, field)) for name, field in structs[kind]]
-    return C_TYPES.get(kind, kind)
+        return [leaf for field, inner in structs[kind] for leaf in c_layout(structs, inner, field)]
+    return [(name, C_TYPES.get(kind, kind))]
 
 
 def c_parameter(structs, text):
-    """One parameter of the header, by name and shape."""
+    """One parameter of the header: its name, and its layout or what it points to."""
     kind, star, name = re.fullmatch(r"((?:const )?\w+) (\*?)(\w+)", " ".join(text.split())).groups()
-    shape = c_shape(structs, kind.removeprefix("const "))
-    return (name, f"{'const' if kind.startswith('const ') else 'mut'} {shape}") if star else (name, shape)
+    layout = c_layout(structs, kind.removeprefix("const "))
+    return (name, f"{'const' if kind.startswith('const ') else 'mut'} {layout[0][1]}") if star else (name, layout)
 
 
 def struct_fields(house, path, name):
@@ -271,33 +299,33 @@ def struct_fields(house, path, name):
     return struct_fields(house, f"crates/{crate}/src/{'/'.join(modules or ['lib'])}.rt", name)
 
 
-def shape(house, path, kind):
-    """A type of the sources by the machine's types."""
+def layout(house, path, kind, name=""):
+    """A type of the sources as it lies in memory."""
     if kind in C_TYPES.values():
-        return kind
+        return [(C_FIELDS.get(name, name), kind)]
     declared, fields = struct_fields(house, path, kind)
-    return [(C_FIELDS.get(name, name), shape(house, declared, field)) for name, field in fields]
+    return [leaf for field, inner in fields for leaf in layout(house, declared, inner, field)]
 
 
-def parameters(house, f):
+def c_parameters(house, f):
     """The parameters as C hands them over: a slice is a pointer and a length."""
     for name, kind in re.findall(r"(\w+): (&?(?:mut )?[\w\[\]]+)", f.parameters):
         if kind.startswith("&"):
             yield name, f"{'mut' if 'mut ' in kind else 'const'} {kind[kind.index('[') + 1:-1]}"
-            yield f"{name}_length", "usize"
+            yield f"{name}_length", [("", "usize")]
         else:
-            yield name, shape(house, f.path, kind)
+            yield name, layout(house, f.path, kind)
 
 
 def check_types(house, functions):
-    """Each declaration of the header has the parameters and the answer of the exported function, field by field."""
+    """Each declaration of the header has the parameters and the answer of the exported function, innermost field by field."""
     declared, structs = header_functions(house), c_structs(house)
     for f in functions:
         if f.exported and f.name in declared:
             answer, handed = declared[f.name]
-            if [c_parameter(structs, text) for text in handed.split(",")] != list(parameters(house, f)):
+            if [c_parameter(structs, text) for text in handed.split(",")] != list(c_parameters(house, f)):
                 house.lack(f"{f.name} of {HEADER} does not take the parameters that it has in {f.path}")
-            if c_shape(structs, answer) != shape(house, f.path, f.answer):
+            if c_layout(structs, answer) != layout(house, f.path, f.answer):
                 house.lack(f"{f.name} of {HEADER} does not have the answer that it has in {f.path}")
 
 
