@@ -481,8 +481,8 @@ def stands_in(house, name, place):
 
 def is_stated(text, name):
     """A line gives the name its type; NAME stands for any name."""
-    name = re.escape(name).replace("NAME", r"\S+")
-    return bool(re.search(rf"^ *(?:abbrev |unfoldable )?pub (?:{name} :|(?:record|data) {name} )", text, re.M))
+    names = re.findall(r"^ *(?:abbrev |unfoldable )?pub (?:(?:record|data) )?(\S+)(?= :| \()", text, re.M)
+    return name in names or "NAME" in name and any(re.fullmatch(name.replace("NAME", ".+"), other) for other in names)
 
 
 def is_proved(house, path):
