@@ -42,7 +42,9 @@ class House:
         return sorted(path for path in found if "target" not in path.split("/"))
 
     def has(self, path):
-        """Whether a file or folder is there; NAME stands for any name."""
+        """Whether a file or folder of the repository is there; NAME stands for any name."""
+        if path.startswith("/"):
+            return False
         return bool(self.files(path.replace("NAME", "*"))) if "NAME" in path else (self.root / path).exists()
 
     def text(self, path):
@@ -89,16 +91,21 @@ def owner_at(text, place):
     return None
 
 
+HEAD = r"""(\#\[no_mangle\]\s*)? \bpub\s ((?:[\w"]+\s)*) fn\s (\w+) [^(]* \( ([^)]*) \) (?:\s*->\s* ([^{]*?))? (?=\s*(?:requires|ensures|\{))"""
+
+
 def functions_in(house, crate, path):
     """The functions of a file that are marked `pub`."""
     text = source(house, path)
-    head = r'(#\[no_mangle\]\s*)?\bpub ((?:[\w"]+ )*)fn (\w+)[^(]*\(([^)]*)\)(?:\s*->\s*([^{]*?))?(?=\s*(?:requires|ensures|\{))'
-    for m in re.finditer(head, text):
-        if bool(m[1]) != ("extern" in m[2]):
-            house.lack(f"pub fn {m[3]} of {path} has one of no_mangle and extern \"C\" without the other")
-        yield Function(crate, path, owner_at(text, m.start()), m[3], bool(m[1]), clauses(text, m.end()), m[4], m[5])
-    for unread in re.findall(r"\bpub use [^;]*;|\bmod \w+\s*\{", text):
+    found = [Function(crate, path, owner_at(text, m.start()), m[3], bool(m[1]), clauses(text, m.end()), m[4], m[5])
+             for m in re.finditer(HEAD, text, re.X) if bool(m[1]) == ("extern" in m[2])]
+    read = {f.name for f in found}
+    for name in re.findall(r"\bpub\s+(?:[\w\"]+\s+)*fn\s+(\w+)", text) + re.findall(r"no_mangle\][^{]*?\bfn\s+(\w+)", text):
+        if name not in read:
+            house.lack(f"fn {name} of {path} has a head that this test does not read, or one of no_mangle and extern \"C\" without the other")
+    for unread in re.findall(r"\bpub use [^;]*;|\bmod \w+\s*\{|\bpub trait \w+", text):
         house.lack(f"`{unread}` of {path} hides public functions from this test")
+    return found
 
 
 def public_files(house, crate, path="lib.rt"):
@@ -131,6 +138,14 @@ def told(f):
     return f"pub fn {full_name(f)} of {f.path}"
 
 
+def check_crates(house):
+    """The prover is told of every crate."""
+    listed = re.findall(r"^(\w+):", house.text("crates.txt"), re.M)
+    for path in house.files("crates/*"):
+        if path.split("/")[1] not in listed:
+            house.lack(f"{path} is not in crates.txt")
+
+
 def check_contract(house, f):
     if "requires" in f.clauses:
         house.lack(f"{told(f)} has a requires")
@@ -150,27 +165,26 @@ def contract_name(house, f, path):
     return found and found[1]
 
 
-def has_theorem(house, f, path, names, kinds):
-    """A theorem of one of the names, of one of the kinds, over the function's own contract; else a lack."""
-    contract = contract_name(house, f, path)
-    for name in names:
-        name = name.replace("CONTRACT", contract or f.name.replace("_", "-"))
-        stated = rf"^pub {name} : (?:{kinds}).*(?<!\S){contract}\.Post\b"
-        if contract and re.search(stated, house.text(path), re.M):
-            house.seen["theorems"].add(f"{path} {name}")
+def check_theorem(house, f, path, *theorems):
+    """The file has one of the theorems, each a name and how it begins, over the function's own contract, which both call THIS."""
+    this = contract_name(house, f, path)
+    for name, begins in theorems if this and is_proved(house, path) else ():
+        if re.search(f"^pub {name} : {begins}".replace("THIS", this), house.text(path), re.M):
+            house.seen["theorems"].add(f"{path} {name.replace('THIS', this)}")
             return
-    wanted = " or ".join(name.replace("CONTRACT", contract or "NAME") for name in names)
+    wanted = " or ".join(name.replace("THIS", this or "NAME") for name, _ in theorems)
     house.lack(f"{told(f)} has no theorem {wanted} over its own contract in {path}")
 
 
 def check_theorems(house, f):
-    own = f"crates/{f.crate}/proofs/Unique.antt"
-    has_theorem(house, f, own, [f.name.replace("_", "-") + "-single"], "Single ")
-    has_theorem(house, f, CONDITION1, ["CONTRACT-settled", "CONTRACT-one-answer"], "Settled |Single ")
+    of_this = r".* THIS\.Post\b"
+    check_theorem(house, f, f"crates/{f.crate}/proofs/Unique.antt", (f.name.replace("_", "-") + "-single", "Single" + of_this))
+    check_theorem(house, f, CONDITION1, ("THIS-settled", "Settled" + of_this), ("THIS-one-answer", "Single" + of_this))
     if "&mut [" in f.parameters:
-        has_theorem(house, f, CONDITION1, ["CONTRACT-past"], "Always ")
+        check_theorem(house, f, CONDITION1, ("THIS-past", "Always" + of_this))
     if f.exported:
-        has_theorem(house, f, CONDITION1, ["CONTRACT-is", "CONTRACT-tells"], "|Always ")
+        entry = f.name.removeprefix("plg_").replace("_", "-")
+        check_theorem(house, f, CONDITION1, ("THIS-is", rf"THIS\.Post ≡ {entry}\.Post$"), ("THIS-tells", "Always" + of_this))
 
 
 # ---- exported functions
@@ -187,8 +201,8 @@ def header_text(house):
 
 def header_functions(house):
     """Each function of the header: the type of its answer, and its parameters."""
-    found = re.findall(r"(\w+)\s+(plg_\w+)\s*\(([^()]*)\)\s*;", header_text(house))
-    return {name: (answer, parameters) for answer, name, parameters in found}
+    found = re.findall(r"([\w *]+?)\s*\b(plg_\w+)\s*\(([^()]*)\)", header_text(house))
+    return {name: (answer.strip(), parameters) for answer, name, parameters in found}
 
 
 def rust_functions(house):
@@ -279,7 +293,10 @@ def c_layout(structs, kind, name=""):
 
 def c_parameter(structs, text):
     """One parameter of the header: its name, and its layout or what it points to."""
-    kind, star, name = re.fullmatch(r"((?:const )?\w+) (\*?)(\w+)", " ".join(text.split())).groups()
+    known = re.fullmatch(r"((?:const )?\w+) (\*?)(\w+)", " ".join(text.split()))
+    if not known:
+        return text
+    kind, star, name = known.groups()
     layout = c_layout(structs, kind.removeprefix("const "))
     return (name, f"{'const' if kind.startswith('const ') else 'mut'} {layout[0][1]}") if star else (name, layout)
 
@@ -391,6 +408,8 @@ class Reader:
                 self.edits.add(f"{place}{name}.edit")
             else:
                 self.house.seen["theorems" if "/proofs/" in place else "definitions"].add(f"{place} {name}")
+        if len(found) > 1:
+            self.lack(line, f"`{name}` stands in {' and in '.join(found)}, and one is meant")
         if not found:
             self.lack(line, f"`{name}` does not stand in {' or '.join(places) or 'a file that is there'}")
 
@@ -454,6 +473,8 @@ class Reader:
             self.words(start, " ".join(header))
             for line, row in rows:
                 self.row(line, header, row)
+                if len(row) != len(header):
+                    self.lack(line, f"the row has {len(row)} cells, and its table has {len(header)} columns")
             return
         if piece[0][0] == "#":
             self.section = [word for word in re.findall(r"`([^`]+)`", piece[0]) if word in self.crates]
@@ -533,10 +554,13 @@ def check_versions(house):
     if not all(macros):
         house.lack(f"{HEADER} does not define PLG_VERSION_MAJOR, PLG_VERSION_MINOR and PLG_VERSION_PATCH")
     for path in house.files("rust/**/Cargo.toml"):
-        for given in re.findall(r'^version\s*=\s*"([^"]*)"', house.text(path), re.M):
-            house.seen["versions"].add(path)
-            if all(macros) and given != version:
-                house.lack(f"{path} has version {given}, and {HEADER} has {version}")
+        given = re.findall(r'^version\s*=\s*"([^"]*)"', house.text(path), re.M)
+        house.seen["versions"] |= {path} if given else set()
+        if "[package]" in house.text(path) and not given and "version.workspace" not in house.text(path):
+            house.lack(f"{path} has no version")
+        for other in given:
+            if all(macros) and other != version:
+                house.lack(f"{path} has version {other}, and {HEADER} has {version}")
 
 
 def check_documents(house):
@@ -562,6 +586,7 @@ def check_line(house, path, line, text):
 def looked_over(root, symbols):
     """The house after every check."""
     house = House(root, symbols)
+    check_crates(house)
     functions = public_functions(house)
     for f in functions:
         check_contract(house, f)
