@@ -285,9 +285,9 @@ def c_structs(house):
 
 
 def c_layout(structs, kind, name=""):
-    """A C type as it lies in memory: the names and types of its innermost fields, in their order."""
+    """A C type as it lies in memory: its innermost fields in their order, each with the names that lead to it and its type."""
     if kind in structs:
-        return [leaf for field, inner in structs[kind] for leaf in c_layout(structs, inner, field)]
+        return [leaf for field, inner in structs[kind] for leaf in c_layout(structs, inner, f"{name}.{field}")]
     return [(name, C_TYPES.get(kind, kind))]
 
 
@@ -319,9 +319,9 @@ def struct_fields(house, path, name):
 def layout(house, path, kind, name=""):
     """A type of the sources as it lies in memory."""
     if kind in C_TYPES.values():
-        return [(C_FIELDS.get(name, name), kind)]
+        return [(name, kind)]
     declared, fields = struct_fields(house, path, kind)
-    return [leaf for field, inner in fields for leaf in layout(house, declared, inner, field)]
+    return [leaf for field, inner in fields for leaf in layout(house, declared, inner, f"{name}.{C_FIELDS.get(field, field)}")]
 
 
 def c_parameters(house, f):

@@ -81,6 +81,7 @@ CASES = [
     (HEADER, "plg_bars(uint64_t r, int64_t alpha", "plg_bars(uint64_t r, uint64_t alpha", "plg_bars of include/ploegelster.h does not take"),
     (HEADER, "uint64_t high, low; } plg_wide", "uint64_t low, high; } plg_wide", "plg_allan_sum of include/ploegelster.h does not have the answer"),
     (HEADER, "plg_part allan, modified;", "plg_part allan;", "plg_meter_report of include/ploegelster.h does not have the answer"),
+    (HEADER, "plg_wide a, b;", "plg_wide b, a;", "plg_meter_report of include/ploegelster.h does not take"),
     (METER, "    pub window: i64,", "    pub window: u64,", "plg_meter_report of include/ploegelster.h does not take"),
     (METER, "#[repr(C)]\npub struct Meter {", "pub struct Meter {", "struct Meter of crates/meter/src/lib.rt goes to C and has no repr(C)"),
     # what docs/STATEMENTS.md names
