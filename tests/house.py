@@ -3,10 +3,11 @@
 
     tests/house.py SYMBOLS [ROOT]
 
-SYMBOLS is a file with the archive's symbols, one a line. Every public function takes every input, promises something and has its theorems; the
-sources, the header, the archive, the Rust declarations and the tables of refusals name the same exported functions; whatever docs/STATEMENTS.md
-names stands in the file that it names, by the rules that its section on reading gives; the header's version is that of the Rust packages; no
-document names a file that is not there. It reads text: whether a theorem is proved is the prover's to say."""
+SYMBOLS is a file with the archive's symbols, one a line. Every public function takes every input, promises something and has its theorems. The
+sources, the header, the archive, the Rust declarations and the documents name the same exported functions, with the same orders of refusals, and the
+header gives them the same parameters and answers. Whatever docs/STATEMENTS.md names stands where it says, by the rules that stand there. The header
+has the version of the Rust packages, and no document names a file that is not there. This reads text: whether a theorem is proved is the
+prover's to say. house_test.py tries it."""
 import re
 import sys
 from collections import defaultdict, namedtuple
@@ -376,7 +377,7 @@ def is_path(word):
     return "/" in word or re.search(r"\.(antt|rt|rs|py|md|h|c|toml|txt)$", word)
 
 
-# ---- docs/STATEMENTS.md, by the rules of its own section on reading
+# ---- docs/STATEMENTS.md, by its section "How a name has its place"
 
 
 class Reader:
