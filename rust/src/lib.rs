@@ -5,7 +5,6 @@
 //! writing, lent to nobody else. That is why every call below is sound.
 
 pub mod boundary;
-pub mod independent;
 
 pub use boundary::{
     Bar, BarsAnswer, CountAnswer, DeviationAnswer, DotAnswer, DrawnAnswer, DriftAnswer, FractionAnswer, Meter, MeterAnswer, NoiseAnswer, Part,

@@ -3,9 +3,9 @@
 #[allow(dead_code)]
 mod shared;
 
-use ploegelster::independent::meter::{self, Meter};
-use ploegelster::independent::sums::{allan_sum, modified_sum};
-use ploegelster::independent::Answer;
+use independent::meter::{self, Meter};
+use independent::sums::{allan_sum, modified_sum};
+use independent::Answer;
 use ploegelster::Wide;
 use shared::answers::{expected, expected_meter, Words};
 use shared::lent::Lent;

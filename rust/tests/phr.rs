@@ -3,7 +3,7 @@
 #[allow(dead_code)]
 mod shared;
 
-use ploegelster::independent::file::{self, file_of, Kind};
+use independent::file::{self, file_of, Kind};
 use shared::lent::Lent;
 use shared::random::Random;
 use shared::records::rooms;

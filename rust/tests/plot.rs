@@ -3,8 +3,8 @@
 #[allow(dead_code)]
 mod shared;
 
-use ploegelster::independent::noise::{self, Noise};
-use ploegelster::independent::{drawn, Refusal};
+use independent::noise::{self, Noise};
+use independent::{drawn, Refusal};
 use ploegelster::Wide;
 use shared::lent::Lent;
 use shared::random::Random;

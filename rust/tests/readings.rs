@@ -3,7 +3,7 @@
 #[allow(dead_code)]
 mod shared;
 
-use ploegelster::independent::floats;
+use independent::floats;
 use shared::lent::Lent;
 use shared::random::Random;
 use shared::records::{factors, lengths, record, rooms};

@@ -3,7 +3,7 @@
 #[allow(dead_code)]
 mod shared;
 
-use ploegelster::independent::{drift, frequency, Answer};
+use independent::{drift, frequency, Answer};
 use ploegelster::CountAnswer;
 use shared::lent::Lent;
 use shared::random::Random;

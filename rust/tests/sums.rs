@@ -3,7 +3,7 @@
 #[allow(dead_code)]
 mod shared;
 
-use ploegelster::independent::{fractions, sums};
+use independent::{fractions, sums};
 use ploegelster::Wide;
 use shared::lent::Lent;
 use shared::random::Random;

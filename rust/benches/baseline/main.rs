@@ -2,7 +2,7 @@
 
 mod straightforward;
 
-use ploegelster::independent::file::{file_of, Kind};
+use independent::file::{file_of, Kind};
 use std::hint::black_box;
 use std::time::Instant;
 

@@ -1,14 +1,14 @@
 //! Answers of both sides laid out as words: number, place, then every value in the header's order. Doubles are their bits.
 
-use ploegelster::independent::drawn::Dot;
-use ploegelster::independent::drift::Drift;
-use ploegelster::independent::file::Read;
-use ploegelster::independent::floats::Sums;
-use ploegelster::independent::fractions::Fraction;
-use ploegelster::independent::meter::Meter;
-use ploegelster::independent::noise::{Bars, Noise};
-use ploegelster::independent::sums::Sum;
-use ploegelster::independent::Answer;
+use independent::drawn::Dot;
+use independent::drift::Drift;
+use independent::file::Read;
+use independent::floats::Sums;
+use independent::fractions::Fraction;
+use independent::meter::Meter;
+use independent::noise::{Bars, Noise};
+use independent::sums::Sum;
+use independent::Answer;
 
 /// An answer of the library.
 pub trait Words {

@@ -6,7 +6,7 @@ pub mod random;
 pub mod records;
 
 use answers::{expected, Values, Words};
-use ploegelster::independent::Answer;
+use independent::Answer;
 
 pub const END: i64 = 1 << 40;
 
