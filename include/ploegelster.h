@@ -1,8 +1,11 @@
-/* Ploegelster: proved clock statistics, as a static library.
+/**
+ * Ploegelster: proved clock statistics, as a static library.
  *
- * Each answer carries a refusal's number and place. Number 0: the call was answered. Any other: every other value of the answer is nought, a meter
- * comes back as it was handed in, and no byte of a lent buffer has changed. Tests are made in the order in which an entry lists them, and the first
- * that fails is the answer.
+ * The rules behind every entry stand in docs/RULES.md; what is proved of them in docs/STATEMENTS.md.
+ *
+ * Answers. Each answer carries a refusal's number and place. Number 0: the call was answered. Any other: every other value of the answer is nought, a
+ * meter comes back as it was handed in, and no byte of a lent buffer has changed. Tests are made in the order in which an entry lists them, and the
+ * first that fails is the answer. Test the number before you pass a value on: the noughts beside a refusal, passed on, look like the best crystal.
  *
  *   1  too few samples, a count of 0, or M below 10 for bars                   place 0
  *   2  too many samples, readings, counts or M                                 place 0
@@ -14,13 +17,23 @@
  *   8  a deviation of nought where a ratio or a bar is asked                   place 0
  *   9  bad file bytes or length                                                byte offset
  *
+ * Lent buffers. An entry that fills a buffer writes its output at the front, in one piece, and says how long it is. Entries past the output are
+ * unchanged: a buffer may be longer than it must be, and what stood behind the output stands there still, answered or refused. An output buffer
+ * may be fresh memory, as malloc gives it: nothing in it is read before it is written. After a refusal it is as fresh as it was, so that nothing in it
+ * means anything. The meter's ring may be fresh too: a start writes nothing to it, and a sample call reads only slots that earlier sample calls wrote.
+ *
  * What the caller owes, and nothing else:
  *   - a pointer is not null, is aligned for its type, and is good for as many entries as the length beside it says, also where that length is 0;
- *     entries of a lent buffer hold some value when the call is made;
+ *     what is only read (samples, readings, bytes, values) has been given values;
  *   - a buffer that the call may write overlaps no other buffer of the same call, and nobody else uses it before the call returns.
  * The library keeps no state, takes no memory and calls nothing; calls on different buffers may be made from different threads.
  *
- * Samples are picoseconds from -2^40 to 2^40. A record has at most 32,768 of them. The factor m runs from 1 to 10,922.
+ * Units. Samples are picoseconds, one a basic interval. The Allan and modified variances are in square picoseconds per basic interval squared, the
+ * time variance in square picoseconds. Deviations are whole numbers of 2^-20 picoseconds (Allan: per basic interval): divide by
+ * PLG_UNITS_A_PICOSECOND, and the Allan deviation by the basic interval in picoseconds too where the dimensionless figure is wanted.
+ *
+ * The record file. Three bytes 50 48 52 ("PHR"), the version 1 in two, the kind in one (0 phase, 1 frequency), the count in two, then each value in
+ * eight, two's complement. Numbers of more than one byte have their low byte first. Nothing follows.
  */
 #ifndef PLOEGELSTER_H
 #define PLOEGELSTER_H
@@ -33,7 +46,36 @@
 extern "C" {
 #endif
 
-/* Refusal numbers. */
+/** The version: the first number changes where a program that used the one before must be changed or compiled anew. */
+#define PLG_VERSION_MAJOR 2
+#define PLG_VERSION_MINOR 0
+#define PLG_VERSION_PATCH 0
+
+/* ---- limits, ends allowed */
+
+/** Samples of a record, and a count that is handed in, at most. */
+#define PLG_MOST_SAMPLES 32768
+/** Readings of a frequency record, at most. */
+#define PLG_MOST_READINGS 32767
+/** The factor m runs from 1 to this. */
+#define PLG_LARGEST_FACTOR 10922
+/** The factor of a noise type of a record runs from 1 to this. */
+#define PLG_LARGEST_NOISE_FACTOR 5461
+/** A phase sample lies from minus this to this: 2^40 picoseconds. */
+#define PLG_SAMPLE_END (INT64_C(1) << 40)
+/** A frequency value of a file lies from minus this to this: 2^41 picoseconds per basic interval. */
+#define PLG_FREQUENCY_END (INT64_C(1) << 41)
+/** A deviation lies from 0 to this: 2^62. */
+#define PLG_LARGEST_DEVIATION (UINT64_C(1) << 62)
+/** M of bars runs from the first to the second. */
+#define PLG_FEWEST_INTERVALS 10
+#define PLG_MOST_INTERVALS 32767
+/** So many units of a deviation are a picosecond: 2^20. */
+#define PLG_UNITS_A_PICOSECOND 1048576
+
+/* ---- refusals */
+
+/** Refusal numbers. */
 #define PLG_ANSWERED 0
 #define PLG_TOO_FEW 1
 #define PLG_TOO_MANY 2
@@ -45,154 +87,217 @@ extern "C" {
 #define PLG_NO_DEVIATION 8
 #define PLG_BAD_FILE 9
 
-/* A whole number of 128 bits: high * 2^64 + low. */
+/** A refusal's number in words. Any number has words. */
+static inline const char *plg_refusal_text(uint64_t number)
+{
+    switch (number) {
+    case PLG_ANSWERED: return "answered";
+    case PLG_TOO_FEW: return "too few samples, counts or intervals";
+    case PLG_TOO_MANY: return "too many samples, readings, counts or intervals";
+    case PLG_OUT_OF_RANGE: return "a value outside its range";
+    case PLG_NOT_WHOLE: return "a reading that is not whole, or not a number";
+    case PLG_BAD_FACTOR: return "a factor outside its range";
+    case PLG_NO_ROOM: return "a lent buffer or ring that is too short";
+    case PLG_BAD_METER: return "a meter that does not hold together";
+    case PLG_NO_DEVIATION: return "a deviation of nought where a ratio or a bar is asked";
+    case PLG_BAD_FILE: return "bad bytes or a bad length in a file";
+    default: return "no number of this library";
+    }
+}
+
+/* ---- answers */
+
+/** A whole number of 128 bits: high * 2^64 + low. */
 typedef struct { uint64_t high, low; } plg_wide;
 
-/* How many entries of the lent buffer were written. */
+/** How many entries of the lent buffer were written. */
 typedef struct { uint64_t number, place, count; } plg_count_answer;
 
-/* A sum of squares in two halves, and how many squares. */
-typedef struct { uint64_t number, place, high, low, count; } plg_sum_answer;
+/** A sum of squares, and how many squares. */
+typedef struct { uint64_t number, place; plg_wide sum; uint64_t count; } plg_sum_answer;
 
-/* One sum as a part of an answer: its own number is 1, beside noughts, where the sum is not due. */
-typedef struct { uint64_t number, high, low, count; } plg_part;
+/** One sum as a part of an answer: its own number is 1, beside noughts, where the sum is not due. That is no refusal of the call. */
+typedef struct { uint64_t number; plg_wide sum; uint64_t count; } plg_part;
 
-/* Both sums; number and place are the call's own. */
+/** Both sums; number and place are the call's own, and each part has its own number besides. */
 typedef struct { uint64_t number, place; plg_part allan, modified; } plg_sums_answer;
 
-/* A fraction in lowest terms, its numerator in two halves. */
-typedef struct { uint64_t number, place, high, low, denominator; } plg_fraction_answer;
+/** A fraction in lowest terms. */
+typedef struct { uint64_t number, place; plg_wide numerator; uint64_t denominator; } plg_fraction_answer;
 
-/* A deviation in units of 2^-20 picoseconds. */
+/** A deviation in units of 2^-20 picoseconds. */
 typedef struct { uint64_t number, place, deviation; } plg_deviation_answer;
 
-/* The drift figure P over R. */
+/** The drift figure P over R. */
 typedef struct { uint64_t number, place; int64_t p; uint64_t r; } plg_drift_answer;
 
-/* A double to draw. */
+/** A double to draw. */
 typedef struct { uint64_t number, place; double value; } plg_drawn_answer;
 
-/* What stands at a place of a plot. The value is 0.0 but for a drawn dot. */
+/** What stands at a place of a plot, by its kind. The value is 0.0 but for a drawn dot. */
 #define PLG_DOT_NOUGHT 0
 #define PLG_DOT_DRAWN 1
 #define PLG_DOT_TOO_FEW 2
 typedef struct { uint64_t number, place, kind; double value; } plg_dot_answer;
 
-/* A noise type by its alpha: 2 white phase, 1 flicker phase, 0 white frequency, -1 flicker frequency, -2 random walk frequency. */
+/** A noise type by its alpha. Beside a refusal the alpha is 0, which means nothing there. */
+#define PLG_WHITE_PHASE 2
+#define PLG_FLICKER_PHASE 1
+#define PLG_WHITE_FREQUENCY 0
+#define PLG_FLICKER_FREQUENCY (-1)
+#define PLG_RANDOM_WALK_FREQUENCY (-2)
 typedef struct { uint64_t number, place; int64_t alpha; } plg_noise_answer;
 
-/* A bar row: three doubles, drawn from r-h, r and r+h. */
+/** A bar row: three doubles, drawn from r-h, r and r+h. */
 typedef struct { double low, mid, high; } plg_bar;
 
-/* A bar row, and whether r-h is nought. */
+/** A bar row, and whether r-h is nought. */
 typedef struct { uint64_t number, place; plg_bar bar; bool touches; } plg_bars_answer;
 
-/* The running meter. At first all noughts; after that, as the latest call gave it back. Any content is answered or refused. */
+/** The running meter. At first all noughts; after that, as the latest call gave it back. Any content is answered or refused. */
 typedef struct { uint64_t m, n; plg_wide a, b; int64_t window; } plg_meter;
 
+/** The meter as the call leaves it: after a refusal the one that was handed in. */
 typedef struct { uint64_t number, place; plg_meter meter; } plg_meter_answer;
 
-/* The kind of a file, 0 phase or 1 frequency, and how many values it holds. */
+/** The kind of a file, and how many values it holds. */
+#define PLG_KIND_PHASE 0
+#define PLG_KIND_FREQUENCY 1
 typedef struct { uint64_t number, place, kind, count; } plg_read_answer;
+
+/** The length in bytes of the file of so many values. */
+#define PLG_FILE_LENGTH(count) (8 + 8 * (size_t)(count))
 
 /* ---- the published sums */
 
-/* The Allan sum A of squared second differences at factor m, with its count K = N-2m.
- * Refuses 5 (m not from 1 to 10,922), 2 (N above 32,768), 1 (N below 2m+1), 3 (at the first sample outside its range). */
+/**
+ * The Allan sum A of squared second differences at factor m, with its count K = N-2m.
+ * Refuses 5 (m not from 1 to 10,922), 2 (N above 32,768), 1 (N below 2m+1), 3 (at the first sample outside its range).
+ */
 plg_sum_answer plg_allan_sum(const int64_t *samples, size_t samples_length, uint64_t m);
 
-/* The modified sum B of squared window sums at factor m, with its count C = N-3m+1.
- * Refuses 5, 2, 1 (N below 3m), 3 (at the first sample outside its range). */
+/**
+ * The modified sum B of squared window sums at factor m, with its count C = N-3m+1. The modified variance is B / (2 m^4 C).
+ * Refuses 5, 2, 1 (N below 3m), 3 (at the first sample outside its range).
+ */
 plg_sum_answer plg_modified_sum(const int64_t *samples, size_t samples_length, uint64_t m);
 
-/* The Allan variance A / (2 m^2 K) in lowest terms; nought is 0/1.
- * Refuses 5 (m), 1 (count 0), 2 (count above 32,768), 3 (sum of 2^126 or more, place 0). */
+/**
+ * The Allan variance A / (2 m^2 K) in lowest terms; nought is 0/1.
+ * Refuses 5 (m), 1 (count 0), 2 (count above 32,768), 3 (sum of 2^126 or more), all at place 0.
+ */
 plg_fraction_answer plg_allan_fraction(plg_wide sum, uint64_t m, uint64_t count);
 
-/* The time variance B / (6 m^2 C) in lowest terms; nought is 0/1. Refuses as the Allan variance does. */
+/** The time variance B / (6 m^2 C) in lowest terms; nought is 0/1. Refuses as the Allan variance does. */
 plg_fraction_answer plg_time_fraction(plg_wide sum, uint64_t m, uint64_t count);
 
-/* The Allan deviation r: the greatest whole number with r^2 (2 m^2 K) not above A times 2^40.
- * Refuses 5, 1, 2, 3 (sum), 3 (r above 2^62), all at place 0. */
+/**
+ * The Allan deviation r: the greatest whole number with r^2 (2 m^2 K) not above A times 2^40.
+ * Refuses 5, 1, 2, 3 (sum), 3 (r above 2^62), all at place 0.
+ */
 plg_deviation_answer plg_allan_deviation(plg_wide sum, uint64_t m, uint64_t count);
 
-/* The time deviation r: the greatest whole number with r^2 (6 m^2 C) not above B times 2^40. Refuses as the Allan deviation does. */
+/** The time deviation r: the greatest whole number with r^2 (6 m^2 C) not above B times 2^40. Refuses as the Allan deviation does. */
 plg_deviation_answer plg_time_deviation(plg_wide sum, uint64_t m, uint64_t count);
 
 /* ---- phase, frequency and drift */
 
-/* Phases from frequency readings: M readings give M+1 phases, from 0 on.
- * Refuses 2 (M above 32,767), 6 (buffer below M+1), 3 (at the first reading whose running phase leaves the sample range). */
+/**
+ * Phases from frequency readings: M readings give M+1 phases, from 0 on.
+ * Refuses 2 (M above 32,767), 6 (buffer below M+1), 3 (at the first reading whose running phase leaves the sample range).
+ */
 plg_count_answer plg_phase_from_frequency(const int64_t *readings, size_t readings_length, int64_t *buffer, size_t buffer_length);
 
-/* Frequency readings from phases: N samples give N-1 differences.
- * Refuses 2 (N above 32,768), 1 (N = 0), 6 (buffer below N-1), 3 (at the first sample outside its range). */
+/**
+ * Frequency readings from phases: N samples give N-1 differences.
+ * Refuses 2 (N above 32,768), 1 (N = 0), 6 (buffer below N-1), 3 (at the first sample outside its range).
+ */
 plg_count_answer plg_frequency_from_phase(const int64_t *samples, size_t samples_length, int64_t *buffer, size_t buffer_length);
 
-/* The drift figure: P = (x_(N-1) - x_(N-2)) - (x_1 - x_0), R = N-2.
- * Refuses 2 (N above 32,768), 1 (N below 3), 3 (at the first sample outside its range). */
+/**
+ * The drift figure: P = (x_(N-1) - x_(N-2)) - (x_1 - x_0), R = N-2.
+ * Refuses 2 (N above 32,768), 1 (N below 3), 3 (at the first sample outside its range).
+ */
 plg_drift_answer plg_drift_figure(const int64_t *samples, size_t samples_length);
 
-/* Drift removed: x_i - floor(P i (i-1) / (2R)), floored once, toward minus infinity.
- * Refuses 2, 1, 6 (buffer below N), 3 (at the first sample outside its range), 3 (at the first result outside it). */
+/**
+ * Drift removed: x_i - floor(P i (i-1) / (2R)), floored once, toward minus infinity. N samples give N results.
+ * Refuses 2, 1, 6 (buffer below N), 3 (at the first sample outside its range), 3 (at the first result outside it).
+ */
 plg_count_answer plg_remove_drift(const int64_t *samples, size_t samples_length, int64_t *buffer, size_t buffer_length);
 
 /* ---- float readings */
 
-/* Samples from doubles, written to the buffer, and both sums of them. The modified part has number 1 where N is below 3m.
+/**
+ * Samples from doubles, written to the buffer, and both sums of them. The modified part has number 1 where N is below 3m.
  * Refuses 5, 2 (N above 32,768), 1 (N below 2m+1), 6 (buffer below N), then at the lowest index 3 (infinite or beyond the sample range) or 4 (in
- * range and not whole, or not a number). */
+ * range and not whole, or not a number).
+ */
 plg_sums_answer plg_float_sums(const double *readings, size_t readings_length, uint64_t m, int64_t *buffer, size_t buffer_length);
 
 /* ---- what is drawn */
 
-/* The greatest double not above r / 2^20. Refuses 3 (r not from 1 to 2^63; place 0). */
+/** The greatest double not above r / 2^20. Refuses 3 (r not from 1 to 2^63; place 0). */
 plg_drawn_answer plg_drawn_number(uint64_t r);
 
-/* The dot of an Allan deviation; a count of 0 is the dot too few. Refuses 5, 2, 3 (sum), 3 (r above 2^62), all at place 0. */
+/** The dot of an Allan deviation; a count of 0 is the dot too few. Refuses 5, 2, 3 (sum), 3 (r above 2^62), all at place 0. */
 plg_dot_answer plg_allan_dot(plg_wide sum, uint64_t m, uint64_t count);
 
-/* The dot of a time deviation; a count of 0 is the dot too few. Refuses as the Allan dot does. */
+/** The dot of a time deviation; a count of 0 is the dot too few. Refuses as the Allan dot does. */
 plg_dot_answer plg_time_dot(plg_wide sum, uint64_t m, uint64_t count);
 
-/* The noise type by the time deviations at m and 2m. Refuses 3 (either above 2^62), 8 (r1 = 0), both at place 0. */
+/** The noise type by the time deviations at m and 2m. Refuses 3 (either above 2^62), 8 (r1 = 0), both at place 0. */
 plg_noise_answer plg_noise_type(uint64_t r1, uint64_t r2);
 
-/* The noise type of a record.
+/**
+ * The noise type of a record.
  * Refuses 5 (m not from 1 to 5,461), 2 (N above 32,768), 1 (N below 6m), 3 (at the first sample outside its range), 8 (a time deviation of nought at
- * m). */
+ * m).
+ */
 plg_noise_answer plg_noise_of_record(const int64_t *samples, size_t samples_length, uint64_t m);
 
-/* The bars of deviation r, for noise of type alpha over M intervals: w is kappa, in hundredths, times r divided by 100, floored; h is the greatest
- * whole number with h^2 M not above w^2.
- * Refuses 3 (alpha not from -2 to 2), 8 (r = 0), 3 (r above 2^62), 1 (M below 10), 2 (M above 32,767), all at place 0. */
+/**
+ * The bars of deviation r, for noise of type alpha over M intervals, M the whole part of (N-1)/m: w is kappa, in hundredths, times r divided by 100,
+ * floored; h is the greatest whole number with h^2 M not above w^2.
+ * Refuses 3 (alpha not from -2 to 2), 8 (r = 0), 3 (r above 2^62), 1 (M below 10), 2 (M above 32,767), all at place 0.
+ */
 plg_bars_answer plg_bars(uint64_t r, int64_t alpha, uint64_t intervals);
 
 /* ---- the running meter */
 
-/* A fresh meter at factor m in place of an old one. The ring becomes the meter's own: every sample call is lent it as the last one left it. It is
- * read for its length alone. Refuses 5, 6 (ring below 3m); never 7. */
+/**
+ * A fresh meter at factor m in place of an old one. The ring becomes the meter's own: every sample call is lent it as the last one left it. It is
+ * read for its length alone. Refuses 5, 6 (ring below 3m), both at place 0; never 7.
+ */
 plg_meter_answer plg_meter_start(plg_meter old, uint64_t m, const int64_t *ring, size_t ring_length);
 
-/* The meter with one more sample, which is written to its slot of the ring, n mod 3m, and nowhere else.
+/**
+ * The meter with one more sample, which is written to its slot of the ring, n mod 3m, and nowhere else.
  * Refuses 7 (m not from 1 to 10,922, n above 32,768, the window beyond m times 2^42, a high half of 2^62 or more, the ring below 3m, or an old slot
- * that is to be read out of range), 2 (n is 32,768), 3 (the sample out of its range), all at place 0. */
+ * that is to be read out of range), 2 (n is 32,768), 3 (the sample out of its range), all at place 0.
+ */
 plg_meter_answer plg_meter_sample(plg_meter meter, int64_t *ring, size_t ring_length, int64_t x);
 
-/* Both sums of the samples accepted since the start: A with K = n-2m, B with C = n-3m+1, each with number 1 where it is not yet due.
- * Refuses 7 (as a sample call does, but for the ring), place 0. */
+/**
+ * Both sums of the samples accepted since the start: A with K = n-2m, B with C = n-3m+1, each with number 1 where it is not yet due.
+ * Refuses 7 (as a sample call does, but for the ring), place 0.
+ */
 plg_sums_answer plg_meter_report(plg_meter meter);
 
 /* ---- the record file */
 
-/* Reads a file's values into the buffer.
+/**
+ * Reads a file's values into the buffer.
  * Refuses 9 (at the lowest wrong header byte, else at the length where the header is short), 2 (too many values for the kind), 9 (at the shorter of
- * the true and the right length), 6 (buffer below the count), 3 (at the index of the first value outside its range). */
+ * the true and the right length), 6 (buffer below the count), 3 (at the index of the first value outside its range).
+ */
 plg_read_answer plg_read_file(const uint8_t *bytes, size_t bytes_length, int64_t *buffer, size_t buffer_length);
 
-/* Writes the file of a kind, 0 phase or 1 frequency, and its values; the count is the file's length in bytes.
+/**
+ * Writes the file of a kind and its values; the count is the file's length in bytes.
  * Refuses 9 (any other kind, at place 5), 2 (too many values for the kind), 6 (buffer below the length), 3 (at the index of the first value outside
- * its range). */
+ * its range).
+ */
 plg_count_answer plg_write_file(uint64_t kind, const int64_t *values, size_t values_length, uint8_t *buffer, size_t buffer_length);
 
 #ifdef __cplusplus
