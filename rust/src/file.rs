@@ -5,7 +5,6 @@ use crate::records::count_of;
 use crate::refusals::{answered, Refusal};
 
 /// What the values of a file are.
-#[must_use]
 #[derive(Clone, Copy, Debug, PartialEq, Eq, Hash)]
 pub enum Kind {
     /// Kind 0: phase samples, at most 32,768, each within 2^40 either way.

@@ -24,8 +24,8 @@
 //! Every input is answered, or refused by a [`Ground`] and a place. A function lists what it refuses by number, in the order in which the tests are
 //! made; the first that fails is the answer. After a refusal every lent buffer is as it was.
 //!
-//! Each function is the entry of the same name in include/ploegelster.h, and adds nothing to it but Rust's types. What the library promises is proved
-//! of its own code; this crate is what lies between, and [`boundary`] is the plain C interface under it.
+//! Each function is the entry of the same name in include/ploegelster.h, with Rust's types for C's; [`boundary`] is the plain C interface under it.
+//! The library's promises are proved of its own code. What this crate adds is plain Rust, and tested against a second implementation.
 
 #![deny(missing_docs)]
 
