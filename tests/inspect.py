@@ -1,5 +1,5 @@
 #!/usr/bin/env python3
-"""Reads the record files of the program `inspect` again, from the outline's rules, and compares every line with the program's
+"""Reads the record files of the program `inspect` again, from the rules, and compares every line with the program's
 stored output. With the word `write` it writes the files anew. Nothing here is shared with the library."""
 import os
 import struct

@@ -1,7 +1,7 @@
 -- Condition 2: the published figure, exactly. Each theorem speaks of every result that the function's own contract allows (Always,
 -- crates/laws/proofs/Single.antt); what is promised of a result stands in specs/Promises.antt. The exported functions have the same contracts
 -- (Condition1.antt, NAME-is), or tell the same answers in numbers (NAME-tells).
-use mathlib.Core.Path.{_≡_, refl, _∙_}
+use mathlib.Core.Path.{_≡_, refl, _∙_, ap}
 use mathlib.Core.Bool.{true}
 use mathlib.Core.List.{List}
 use Prim.Native.Nat.{ℕ, _+_, _-_, _*_, _^_, _≤_, _<_}
@@ -272,16 +272,16 @@ squares-have-sixteen κs args z w is record-is factor = rw (is, record-is, facto
 
 -- the fraction 2/1
 abbrev pub TwoOverOne : FractionAnswer → Type 0
-TwoOverOne z = (z .number ≡ 0) × (z .high * 2 ^ 64 + z .low ≡ 2) × (z .denominator ≡ 1)
+TwoOverOne z = (z .number ≡ 0) × (value (z .numerator) ≡ 2) × (z .denominator ≡ 1)
 
 sixteen-fraction : TwoOverOne (allanFractionAnswer 16 1 4)
 unfolding allanFractionAnswer figureRefusal fractionAnswer lowestTerms gcd euclid allanDenominator
 sixteen-fraction = (refl, refl, refl)
 
--- Whatever the Allan sum answers of this record, the fraction of that answer is 2/1.
+-- Whatever the Allan sum answers of this record, the fraction of that answer, its sum passed on as it came, is 2/1.
 pub squares-have-two : Always 1 allan-sum-kinds.ps allan-sum-kinds.r allan-sum.Post
     (λ κs args z w. now (args .0) ≡ squares → args .1 .0 ≡ 1 → Always 0 allan-fraction-kinds.ps allan-fraction-kinds.r allan-fraction.Post
-    (λ κs′ args′ z′ w′. value (args′ .0) ≡ z .high * 2 ^ 64 + z .low → args′ .1 .0 ≡ 1 → args′ .1 .1 .0 ≡ z .count → TwoOverOne z′))
+    (λ κs′ args′ z′ w′. args′ .0 ≡ z .sum → args′ .1 .0 ≡ 1 → args′ .1 .1 .0 ≡ z .count → TwoOverOne z′))
 squares-have-two κs args z w is record-is factor κs′ args′ z′ w′ is′ total factor′ count =
     let known = squares-have-sixteen κs args z w is record-is factor in
-    rw (is′, total ∙ known .sum-is, factor′, count ∙ known .count-is) sixteen-fraction
+    rw (is′, ap value total ∙ known .sum-is, factor′, count ∙ known .count-is) sixteen-fraction

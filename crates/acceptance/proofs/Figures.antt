@@ -1,4 +1,4 @@
--- Every starred figure of the outline holds.
+-- Every starred figure of the rules holds.
 use mathlib.Core.Path.{_≡_, refl}
 use mathlib.Core.List.{[]}
 use Rattle.laws.specs.Sums.{sum, sumℤ}

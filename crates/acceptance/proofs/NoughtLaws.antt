@@ -91,18 +91,18 @@ module _ (bytes : List ℕ) (buffer : List ℤ) where
 
 pub sum-noughts : (r : Refusal) (s count : ℕ) → Refused (sumAnswer r s count .number) → SumNought (sumAnswer r s count)
 unfolding sumAnswer
-sum-noughts r s count some = rw (by-refusal r (λ nothing. rw nothing) some) (refl, refl, refl)
+sum-noughts r s count some = rw (by-refusal r (λ nothing. rw nothing) some) (refl, refl)
 
 pub part-noughts : (due : Bool) (s count : ℕ) → Refused (partOf due s count .number) → PartValuesNought (partOf due s count)
 unfolding partOf
 part-noughts true s count some = absurd (some refl)
-part-noughts false s count some = (refl, refl, refl)
+part-noughts false s count some = (refl, refl)
 
 module _ (m : ℕ) (xs : List Float) (buffer : List ℤ) where
   pub float-noughts : Refused (floatAnswer m xs (length buffer) .number) → FloatNought (floatAnswer m xs (length buffer)) × (floatBuffer m xs buffer ≡ buffer)
   unfolding floatAnswer bufferLeft noPart
   float-noughts some =
-      rw (by-refusal (floatRefusal m xs (length buffer)) (λ nothing. rw nothing) some) (((refl, (refl, refl, refl)), (refl, (refl, refl, refl))), refl)
+      rw (by-refusal (floatRefusal m xs (length buffer)) (λ nothing. rw nothing) some) (((refl, (refl, refl)), (refl, (refl, refl))), refl)
 
   -- a 1 for one part alone
   pub float-part-noughts : (Refused (floatAnswer m xs (length buffer) .allan .number) → PartValuesNought (floatAnswer m xs (length buffer) .allan))
@@ -127,14 +127,14 @@ module _ (m : ℕ) (xs : List Float) (buffer : List ℤ) where
       by-number : (t : Bool) → (Refused (answer t .allan .number) → PartValuesNought (answer t .allan))
           × (Refused (answer t .modified .number) → PartValuesNought (answer t .modified))
       by-number true = (part-noughts _ _ _, part-noughts _ _ _)
-      by-number false = (λ some. (refl, refl, refl), λ some. (refl, refl, refl))
+      by-number false = (λ some. (refl, refl), λ some. (refl, refl))
 
   pub past-the-samples : (i : ℕ) (e : ℤ) → length xs ≤ i → getD (floatBuffer m xs buffer) i e ≡ getD buffer i e
   past-the-samples i e past = past-unchanged _ (samplesOf xs) buffer i e (omega (arith, samples-length xs))
 
 pub report-noughts : (x : Meter) → Refused (reportAnswer x .number) → ReportNought (reportAnswer x)
 unfolding reportAnswer noPart
-report-noughts x some = rw (falls (holdsTogether x) refl) ((refl, (refl, refl, refl)), (refl, (refl, refl, refl)))
+report-noughts x some = rw (falls (holdsTogether x) refl) ((refl, (refl, refl)), (refl, (refl, refl)))
   where
     falls : (t : Bool) → holdsTogether x ≡ t → t ≡ false
     falls true e = absurd (some (rw e))
@@ -159,7 +159,7 @@ report-part-noughts x = by-test (holdsTogether x)
     by-test : (t : Bool) → (Refused (answer t .allan .number) → PartValuesNought (answer t .allan))
         × (Refused (answer t .modified .number) → PartValuesNought (answer t .modified))
     by-test true = (part-noughts _ _ _, part-noughts _ _ _)
-    by-test false = (λ some. (refl, refl, refl), λ some. (refl, refl, refl))
+    by-test false = (λ some. (refl, refl), λ some. (refl, refl))
 
 -- ---- drift
 
@@ -206,7 +206,7 @@ told-dot-noughts d some = rw (dot-noughts d some .0) (refl, refl)
 
 pub fraction-noughts : (r : Refusal) (f : Fraction) → Refused (fractionAnswer r f .number) → FractionNought (fractionAnswer r f)
 unfolding fractionAnswer
-fraction-noughts r f some = rw (by-refusal r (λ nothing. rw nothing) some) (refl, refl, refl)
+fraction-noughts r f some = rw (by-refusal r (λ nothing. rw nothing) some) (refl, refl)
 
 pub deviation-noughts : (r : Refusal) (d : ℕ) → Refused (deviationAnswer r d .number) → DeviationNought (deviationAnswer r d)
 unfolding deviationAnswer

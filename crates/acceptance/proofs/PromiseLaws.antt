@@ -2,7 +2,7 @@
 use mathlib.Core.Path.{_≡_, refl, sym, ap, _∙_, subst}
 use mathlib.Core.Bool.{Bool, true, false, cond}
 use mathlib.Core.List.{List}
-use Prim.Native.Nat.{ℕ, _+_, _-_, _*_, _/_, _%_, _^_, _≤_, _<_, _∣_}
+use Prim.Native.Nat.{ℕ, _+_, _-_, _*_, _^_, _≤_, _<_, _∣_}
 use native.Mathlib.Omega.{arith}
 use borrow.Author.Tests.{le-leb, lt-leb, ne-eqb, eq-eqb, eqb-true}
 use lib.Dec.{leb, eqb}
@@ -15,6 +15,7 @@ use Rattle.laws.specs.Lists.{at, written}
 use Rattle.laws.proofs.Expressions.{$_, _⊖_, equation}
 use Rattle.laws.proofs.ListLaws.{tabulate-entry, none-fails, first-failing-is, written-front}
 use Rattle.laws.proofs.SumLaws.{sumℤ-step}
+use Rattle.wide.specs.Wide.{value, halves}
 use Rattle.wide.proofs.WideLaws.{value-of-halves}
 use Rattle.record.specs.Answers.{countAnswer, bufferLeft}
 use Rattle.record.specs.Refusals.{none, refused, inRange, rangeRefusal, recordRefusal}
@@ -338,7 +339,7 @@ module _ (a d : ℕ) (some : 0 < d) where
   fraction-of : FractionOf a d (givenFraction (lowestTerms a d))
   fraction-of =
       let n : ℕ = lowestTerms a d .numerator in
-      let whole : n / 2 ^ 64 * 2 ^ 64 + n % 2 ^ 64 ≡ n = value-of-halves n in record {
+      let whole : value (halves n) ≡ n = value-of-halves n in record {
         answered = refl;
         same-value = ap (λ (k : ℕ). k * d) whole ∙ lowest-same-value a d some;
         lowest = λ c p q. lowest-no-common a d some c (subst (λ (k : ℕ). c ∣ k) whole p) q;

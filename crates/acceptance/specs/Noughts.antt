@@ -4,6 +4,7 @@ use mathlib.Core.Path.{_≡_}
 use mathlib.Core.Bool.{false}
 use Prim.Native.Nat.{ℕ}
 use lib.IntN.{pos}
+use Rattle.wide.specs.Wide.{value}
 use Rattle.record.specs.declared.CountAnswer.{CountAnswer}
 use Rattle.sums.specs.declared.SumAnswer.{SumAnswer}
 use Rattle.sums.specs.declared.Part.{Part}
@@ -28,14 +29,14 @@ use Rattle.ploegelster.specs.declared.drawing.ToldNoise.{ToldNoise}
 abbrev pub Refused : ℕ → Type 0
 Refused number = number ≡ 0 → ⊥
 
--- ---- sums, and answers of two parts
+-- ---- sums, and answers of two parts. A number in two halves is nought where both halves are
 
 abbrev pub SumNought : SumAnswer → Type 0
-SumNought z = (z .high ≡ 0) × (z .low ≡ 0) × (z .count ≡ 0)
+SumNought z = (value (z .sum) ≡ 0) × (z .count ≡ 0)
 
 -- the values of a part: nought too beside a 1 for the part alone
 abbrev pub PartValuesNought : Part → Type 0
-PartValuesNought z = (z .high ≡ 0) × (z .low ≡ 0) × (z .count ≡ 0)
+PartValuesNought z = (value (z .sum) ≡ 0) × (z .count ≡ 0)
 
 abbrev pub PartNought : Part → Type 0
 PartNought z = (z .number ≡ 0) × PartValuesNought z
@@ -49,7 +50,7 @@ ReportNought z = PartNought (z .allan) × PartNought (z .modified)
 -- ---- fractions and deviations
 
 abbrev pub FractionNought : FractionAnswer → Type 0
-FractionNought z = (z .high ≡ 0) × (z .low ≡ 0) × (z .denominator ≡ 0)
+FractionNought z = (value (z .numerator) ≡ 0) × (z .denominator ≡ 0)
 
 abbrev pub DeviationNought : DeviationAnswer → Type 0
 DeviationNought z = z .deviation ≡ 0

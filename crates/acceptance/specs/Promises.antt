@@ -1,4 +1,4 @@
--- What conditions 2 and 3 promise of each answer, in the outline's words: the published figure, and nothing about how it is worked.
+-- What conditions 2 and 3 promise of each answer, in the rules' words: the published figure, and nothing about how it is worked.
 use mathlib.Core.Path.{_≡_}
 use mathlib.Core.Bool.{true, false}
 use mathlib.Core.List.{List}
@@ -11,6 +11,7 @@ use lib.Signed.{_≤ℤ_, _<ℤ_}
 use Rattle.laws.specs.Greatest.{Greatest}
 use Rattle.laws.specs.Lists.{at}
 use Rattle.laws.specs.Sums.{sumℤ}
+use Rattle.wide.specs.Wide.{value}
 use Rattle.record.specs.Refusals.{inRange}
 use Rattle.record.specs.declared.CountAnswer.{CountAnswer}
 use Rattle.sums.specs.Published.{difference, allanSum, modifiedSum}
@@ -70,16 +71,16 @@ pub record BarInBounds (r m : ℕ) : Type 0 where
 
 -- ---- sums
 
--- the call is answered with this sum, in two halves, and this count
+-- the call is answered with this sum and this count
 pub record SumOf (total count : ℕ) (z : SumAnswer) : Type 0 where
   pub answered : z .number ≡ 0
-  pub sum-is : z .high * 2 ^ 64 + z .low ≡ total
+  pub sum-is : value (z .sum) ≡ total
   pub count-is : z .count ≡ count
 
 -- the same of a part of an answer
 pub record PartOf (total count : ℕ) (z : Part) : Type 0 where
   pub answered : z .number ≡ 0
-  pub sum-is : z .high * 2 ^ 64 + z .low ≡ total
+  pub sum-is : value (z .sum) ≡ total
   pub count-is : z .count ≡ count
 
 -- ---- fractions and deviations
@@ -87,9 +88,9 @@ pub record PartOf (total count : ℕ) (z : Part) : Type 0 where
 -- a / d in lowest terms, nought is 0/1
 pub record FractionOf (a d : ℕ) (z : FractionAnswer) : Type 0 where
   pub answered : z .number ≡ 0
-  pub same-value : (z .high * 2 ^ 64 + z .low) * d ≡ a * z .denominator
-  pub lowest : (c : ℕ) → c ∣ (z .high * 2 ^ 64 + z .low) → c ∣ z .denominator → c ≡ 1
-  pub nought : a ≡ 0 → (z .high * 2 ^ 64 + z .low ≡ 0) × (z .denominator ≡ 1)
+  pub same-value : value (z .numerator) * d ≡ a * z .denominator
+  pub lowest : (c : ℕ) → c ∣ value (z .numerator) → c ∣ z .denominator → c ≡ 1
+  pub nought : a ≡ 0 → (value (z .numerator) ≡ 0) × (z .denominator ≡ 1)
 
 -- r is the greatest whole number with r^2 d not above a times 2^40; it is the answer, or that is 3 exactly where r is above 2^62
 pub record DeviationOf (a d : ℕ) (z : DeviationAnswer) : Type 0 where

@@ -1,4 +1,5 @@
-// The drift figure of a record, and a record without its drift. Nothing is written where a call is refused.
+// The drift figure of a record, and a record without its drift. Nothing is written where a call is refused. The check of samples is that of crate
+// record; sums and variances of what is left are left to others.
 use record::CountAnswer;
 use record::Refusal;
 ghost use mathlib.Core.Path.{_≡_};

@@ -6,7 +6,7 @@ use crate::print::text;
 use noise::Noise;
 use noise::bars::Bar;
 
-// Deviation r, noise type and M. The types are numbered as the outline's table has them, from alpha 2 down.
+// Deviation r, noise type and M. The types are numbered as the rules' table has them, from alpha 2 down.
 const ROWS: [[u64; 3]; 20] = [
     [1000000, 3, 9],
     [1000000, 3, 10],

@@ -224,7 +224,7 @@ fn left(buffer: &[i64; 32768]) {
         text(b"\n");
         return;
     }
-    sum(answer.high, answer.low, answer.count);
+    sum(answer.sum, answer.count);
     text(b"\n");
 }
 

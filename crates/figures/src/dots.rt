@@ -1,5 +1,6 @@
 // Fractions and plot dots of sums with a factor and a count, Allan and time.
 use crate::print::double;
+use crate::print::halves;
 use crate::print::number;
 use crate::print::refusal;
 use crate::print::text;
@@ -99,9 +100,7 @@ fn fraction(answer: FractionAnswer) {
         text(b"\n");
         return;
     }
-    number(answer.high);
-    text(b":");
-    number(answer.low);
+    halves(answer.numerator);
     text(b"/");
     number(answer.denominator);
     text(b"\n");

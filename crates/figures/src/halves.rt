@@ -57,7 +57,7 @@ fn roots() {
     root(b"2^128 - 1", Wide { hi: MOST, lo: MOST });
 }
 
-// The outline's deviation passes its test, and one more does not.
+// The rules' deviation passes its test, and one more does not.
 fn orders() {
     order(
         b"1482910 squared times 8, 16 times 2^40",

@@ -1,4 +1,4 @@
-// Figures that the library works as it runs, a line each: the outline's that bear no star, numbers at the ends of what two halves hold, long
+// Figures that the library works as it runs, a line each: the rules' that bear no star, numbers at the ends of what two halves hold, long
 // records at many factors, streams fed to the running meter, float readings, buffers that are filled, and what the app draws. The second
 // implementation, rust/src/bin/figures, prints the same lines from its own working.
 mod bars;

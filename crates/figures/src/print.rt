@@ -1,6 +1,7 @@
 // Bytes, numbers, sums and refusals to standard output.
 use libc::STDOUT_FILENO;
 use sums::Part;
+use wide::Wide;
 
 // Bytes as they stand.
 pub fn text(bytes: &[u8]) {
@@ -47,11 +48,16 @@ pub fn refusal(by: u64, place: u64) {
     number(place);
 }
 
-// A sum's halves and its count.
-pub fn sum(high: u64, low: u64, count: u64) {
-    number(high);
+// The halves of a wide number.
+pub fn halves(n: Wide) {
+    number(n.hi);
     text(b":");
-    number(low);
+    number(n.lo);
+}
+
+// A sum's halves and its count.
+pub fn sum(total: Wide, count: u64) {
+    halves(total);
     text(b" of ");
     number(count);
 }
@@ -64,5 +70,5 @@ pub fn part(part: Part) {
         return;
     }
     text(b" ");
-    sum(part.high, part.low, part.count);
+    sum(part.sum, part.count);
 }

@@ -109,10 +109,10 @@ fn heading(name: &[u8], m: u64, length: usize) {
 
 // A sum's answer as a part.
 fn part_of(answer: SumAnswer) -> Part {
+    let sum = answer.sum;
     Part {
         number: answer.number,
-        high: answer.high,
-        low: answer.low,
+        sum,
         count: answer.count,
     }
 }

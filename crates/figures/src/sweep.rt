@@ -1,4 +1,5 @@
 // Sums, fractions and deviations of long records at many factors and lengths.
+use crate::print::halves;
 use crate::print::number;
 use crate::print::refusal;
 use crate::print::sum;
@@ -7,7 +8,6 @@ use crate::records;
 use sums::SumAnswer;
 use variances::DeviationAnswer;
 use variances::FractionAnswer;
-use wide::Wide;
 
 pub fn figures() {
     of_rule(b"ends", records::ENDS);
@@ -79,8 +79,8 @@ fn allan(answer: SumAnswer, m: u64) {
         text(b"\n");
         return;
     }
-    let total = sum_of(answer);
-    sum(total.hi, total.lo, answer.count);
+    let total = answer.sum;
+    sum(total, answer.count);
     fraction(variances::allan_fraction(total, m, answer.count));
     deviation(variances::allan_deviation(total, m, answer.count));
 }
@@ -94,26 +94,16 @@ fn modified(answer: SumAnswer, m: u64) {
         text(b"\n");
         return;
     }
-    let total = sum_of(answer);
-    sum(total.hi, total.lo, answer.count);
+    let total = answer.sum;
+    sum(total, answer.count);
     fraction(variances::time_fraction(total, m, answer.count));
     deviation(variances::time_deviation(total, m, answer.count));
-}
-
-// The sum in an answer.
-fn sum_of(answer: SumAnswer) -> Wide {
-    Wide {
-        hi: answer.high,
-        lo: answer.low,
-    }
 }
 
 // A fraction, its numerator in halves.
 fn fraction(answer: FractionAnswer) {
     text(b", ");
-    number(answer.high);
-    text(b":");
-    number(answer.low);
+    halves(answer.numerator);
     text(b"/");
     number(answer.denominator);
 }

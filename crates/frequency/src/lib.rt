@@ -1,4 +1,5 @@
-// Phase from frequency and back, into lent buffers. Nothing is written where a call is refused.
+// Phase from frequency and back, into lent buffers. Nothing is written where a call is refused. The check of samples is that of crate record; files
+// of either kind are left to crate phr.
 use record::CountAnswer;
 ghost use mathlib.Core.Path.{_≡_};
 ghost use Prim.Native.Nat.{_+_, _-_, _≤_, _<_, _^_};

@@ -122,9 +122,10 @@ fn sum_of(name: &[u8], answer: SumAnswer) {
         refusal(answer.number, answer.place);
         return;
     }
-    number(answer.high);
+    let sum = answer.sum;
+    number(sum.hi);
     text(b":");
-    number(answer.low);
+    number(sum.lo);
     text(b" of ");
     number(answer.count);
 }

@@ -31,11 +31,11 @@ use Rattle.meter.proofs.TestLaws.{slot-inside, slots-lie-where-let-in}
 
 -- a sum with its count
 abbrev pub duePart : Wide → ℕ → Part
-duePart s count = record { number = 0; high = s .hi; low = s .lo; count = count }
+duePart s count = record { number = 0; sum = s; count = count }
 
 -- a part that is not yet due
 abbrev pub notDue : Part
-notDue = record { number = 1; high = 0; low = 0; count = 0 }
+notDue = record { number = 1; sum = halves 0; count = 0 }
 
 module _ (fewest n : ℕ) (s : Wide) (count : ℕ) where
   pub part-is-due : fewest ≤ n → s .lo < 2 ^ 64 → partOf (leb fewest n) (value s) count ≡ duePart s count
@@ -50,10 +50,10 @@ module _ (fewest n : ℕ) (s : Wide) (count : ℕ) where
 -- ---- a report
 
 module _ (x : Meter) where
-  pub report-refused : holdsTogether x ≡ false → {allan modified : Part} → allan ≡ noPart → modified ≡ noPart →
-      _≡_ {A = Report} (record { number = 7; place = 0; allan = allan; modified = modified }) (reportAnswer x)
+  pub report-refused : holdsTogether x ≡ false → {noughts : Part} → noughts ≡ noPart →
+      _≡_ {A = Report} (record { number = 7; place = 0; allan = noughts; modified = noughts }) (reportAnswer x)
   unfolding reportAnswer
-  report-refused e allan-is modified-is = (λ i. record { number = 7; place = 0; allan = allan-is i; modified = modified-is i }) ∙ sym (choice-false _ _ e)
+  report-refused e noughts-are = (λ i. record { number = 7; place = 0; allan = noughts-are i; modified = noughts-are i }) ∙ sym (choice-false _ _ e)
 
   pub report-given : holdsTogether x ≡ true → {allan modified : Part} →
       allan ≡ partOf (leb (2 * x .m + 1) (x .n)) (value (x .a)) (x .n - 2 * x .m) →

@@ -9,9 +9,9 @@ ghost use mathlib.Core.Path.{_≡_};
 ghost use mathlib.Core.Bool.{true};
 ghost use Prim.Native.Nat.{_+_, _-_, _*_};
 ghost use lib.Dec.{leb};
-ghost use Rattle.wide.specs.Wide.{value};
+ghost use Rattle.wide.specs.Wide.{value, halves};
 ghost use Rattle.meter.specs.Meter.{holdsTogether, started};
-ghost use Rattle.sums.specs.Answers.{partOf, noPart};
+ghost use Rattle.sums.specs.Answers.{partOf};
 ghost use Rattle.meter.specs.Answers.{startAnswer, sampleAnswer, ringLeft, reportAnswer};
 
 // The factor m, the accepted count n, the sums A and B, and the sum of the latest second differences, all of them up to m.
@@ -100,8 +100,8 @@ impl Meter {
         Report {
             number: record::BAD_METER,
             place: 0,
-            allan: no_part(),
-            modified: no_part(),
+            allan: sums::NO_PART,
+            modified: sums::NO_PART,
         }
     }
 }
@@ -158,36 +158,22 @@ fn modified_part(meter: Meter) -> Part
 
 // A sum with its count.
 fn due_part(sum: Wide, count: u64) -> Part
-    ensures { λ r. ⌜ r ≡ record { number = 0; high = sum .hi; low = sum .lo; count = count } ⌝ }
+    ensures { λ r. ⌜ r ≡ record { number = 0; sum = sum; count = count } ⌝ }
 {
     Part {
         number: 0,
-        high: sum.hi,
-        low: sum.lo,
+        sum,
         count,
     }
 }
 
 // A part that is not yet due.
 fn part_not_due() -> Part
-    ensures { λ r. ⌜ r ≡ record { number = 1; high = 0; low = 0; count = 0 } ⌝ }
+    ensures { λ r. ⌜ r ≡ record { number = 1; sum = halves 0; count = 0 } ⌝ }
 {
     Part {
         number: record::TOO_FEW,
-        high: 0,
-        low: 0,
-        count: 0,
-    }
-}
-
-// A part of a refused report.
-fn no_part() -> Part
-    ensures { λ r. ⌜ r ≡ noPart ⌝ }
-{
-    Part {
-        number: 0,
-        high: 0,
-        low: 0,
+        sum: Wide { hi: 0, lo: 0 },
         count: 0,
     }
 }

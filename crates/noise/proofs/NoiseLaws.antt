@@ -196,12 +196,12 @@ module _ (m : ℕ) (xs : List ℤ) where
 
   -- the deviation that a sound record's sum answers
   pub time-deviation-answered : recordRefusal modifiedDemand m xs ≡ none → {sum : SumAnswer} {answer : DeviationAnswer} →
-      sum ≡ modifiedSumAnswer m xs → answer ≡ timeDeviationAnswer (sum .high * 2 ^ 64 + sum .low) m (sum .count) → answer .deviation ≡ timeDeviation m xs
+      sum ≡ modifiedSumAnswer m xs → answer ≡ timeDeviationAnswer (value (sum .sum)) m (sum .count) → answer .deviation ≡ timeDeviation m xs
   unfolding timeDeviation
   time-deviation-answered unrefused sum-is answer-is =
       ap (λ (a : DeviationAnswer). a .deviation)
       (answer-is
-      ∙ ap (λ (s : SumAnswer). timeDeviationAnswer (s .high * 2 ^ 64 + s .low) m (s .count)) (sum-is ∙ modified-sum-given m xs (none-sound modifiedDemand m xs unrefused))
+      ∙ ap (λ (s : SumAnswer). timeDeviationAnswer (value (s .sum)) m (s .count)) (sum-is ∙ modified-sum-given m xs (none-sound modifiedDemand m xs unrefused))
       ∙ ap (λ (b : ℕ). timeDeviationAnswer b m (modifiedCount m xs)) (value-of-halves (modifiedSum m xs))
       ∙ time-deviation-given _ _ _ (modified-allowed m xs unrefused) (time-deviation-within m xs unrefused))
 

@@ -1,5 +1,6 @@
 // Error bars of a deviation.
 use crate::Noise;
+use crate::at_nought;
 use crate::kappa;
 use record::Refusal;
 ghost use mathlib.Core.Path.{_≡_};
@@ -125,11 +126,4 @@ fn no_bar() -> Bar
         mid: 0.0,
         high: 0.0,
     }
-}
-
-// A refusal at place 0; number 0 refuses nothing.
-fn at_nought(number: u64) -> Refusal
-    ensures { λ r. ⌜ r ≡ record { number = number; place = 0 } ⌝ }
-{
-    Refusal { number, place: 0 }
 }

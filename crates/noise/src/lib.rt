@@ -3,7 +3,6 @@ pub mod bars;
 
 use record::Demand;
 use record::Refusal;
-use wide::Wide;
 ghost use mathlib.Core.Path.{_≡_};
 ghost use Rattle.record.specs.Refusals.{none, recordRefusal};
 ghost use Rattle.sums.specs.Answers.{modifiedDemand};
@@ -76,12 +75,8 @@ fn time_deviation(samples: &[i64], m: u64) -> u64
     requires { ⌜ recordRefusal modifiedDemand m (now samples) ≡ none ⌝ }
     ensures { λ r. ⌜ r ≡ timeDeviation m (now (samples .entry)) ⌝ }
 {
-    let sum = sums::modified_sum(samples, m);
-    let total = Wide {
-        hi: sum.high,
-        lo: sum.low,
-    };
-    let answer = variances::time_deviation(total, m, sum.count);
+    let modified = sums::modified_sum(samples, m);
+    let answer = variances::time_deviation(modified.sum, m, modified.count);
     answer.deviation
 }
 
@@ -143,7 +138,7 @@ fn index_of(noise: Noise) -> usize
 }
 
 // A refusal at place 0; number 0 refuses nothing.
-fn at_nought(number: u64) -> Refusal
+pub(crate) fn at_nought(number: u64) -> Refusal
     ensures { λ r. ⌜ r ≡ record { number = number; place = 0 } ⌝ }
 {
     Refusal { number, place: 0 }

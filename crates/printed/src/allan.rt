@@ -47,9 +47,10 @@ fn squares(phases: &[i64; 9]) {
 // One line: a first difference squared.
 fn square(x: [i64; 3], printed: u64) {
     let answer = sums::allan_sum(&x, 1);
-    let ours = rounded(answer.low, 100);
+    let square = answer.sum.lo;
+    let ours = rounded(square, 100);
     text(b"first difference squared ");
-    number(answer.low);
+    number(square);
     text(b" in 10^-14, rounded ");
     hundredths(ours);
     text(b"e-10, printed ");
@@ -67,12 +68,9 @@ fn whole(phases: &[i64; 9]) {
         refusal(answer.number, answer.place);
         return;
     }
-    sum(answer.low);
+    let total = answer.sum;
+    sum(total.lo);
     count(answer.count);
-    let total = Wide {
-        hi: answer.high,
-        lo: answer.low,
-    };
     variance(total, answer.count);
     deviation(total, answer.count);
 }
@@ -108,9 +106,10 @@ fn variance(total: Wide, count: u64) {
         refusal(answer.number, answer.place);
         return;
     }
-    let ours = rounded(answer.low / denominator, 100);
+    let numerator = answer.numerator.lo;
+    let ours = rounded(numerator / denominator, 100);
     text(b"variance ");
-    number(answer.low);
+    number(numerator);
     text(b"/");
     number(denominator);
     text(b" in 10^-14, rounded ");

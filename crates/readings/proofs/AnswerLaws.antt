@@ -27,7 +27,7 @@ use Rattle.readings.proofs.RefusalLaws.{samples-length, samples-sound}
 
 -- a sum's answer without its place
 abbrev pub asPart : SumAnswer → Part
-asPart a = record { number = a .number; high = a .high; low = a .low; count = a .count }
+asPart a = record { number = a .number; sum = a .sum; count = a .count }
 
 abbrev pub noSums : Refusal → FloatSums
 noSums r = record { number = r .number; place = r .place; allan = noPart; modified = noPart }

@@ -95,12 +95,12 @@ fn write_samples(readings: &[f64], buffer: &mut [i64])
 
 // One sum's part of the answer.
 fn part_of(answer: SumAnswer) -> Part
-    ensures { λ r. ⌜ r ≡ record { number = answer .number; high = answer .high; low = answer .low; count = answer .count } ⌝ }
+    ensures { λ r. ⌜ r ≡ record { number = answer .number; sum = answer .sum; count = answer .count } ⌝ }
 {
+    let sum = answer.sum;
     Part {
         number: answer.number,
-        high: answer.high,
-        low: answer.low,
+        sum,
         count: answer.count,
     }
 }
@@ -109,23 +109,10 @@ fn part_of(answer: SumAnswer) -> Part
 fn refused(refusal: Refusal) -> FloatSums
     ensures { λ r. ⌜ r ≡ record { number = refusal .number; place = refusal .place; allan = noPart; modified = noPart } ⌝ }
 {
-    let part = no_part();
     FloatSums {
         number: refusal.number,
         place: refusal.place,
-        allan: part,
-        modified: part,
-    }
-}
-
-// A part of an answer that is refused as a whole.
-fn no_part() -> Part
-    ensures { λ r. ⌜ r ≡ noPart ⌝ }
-{
-    Part {
-        number: 0,
-        high: 0,
-        low: 0,
-        count: 0,
+        allan: sums::NO_PART,
+        modified: sums::NO_PART,
     }
 }

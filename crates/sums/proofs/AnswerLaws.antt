@@ -1,10 +1,11 @@
 -- A sum's answer where it is refused and where it is given.
 use mathlib.Core.Path.{_≡_, ap}
 use mathlib.Core.List.{List}
-use Prim.Native.Nat.{ℕ, _/_, _%_, _^_}
+use Prim.Native.Nat.{ℕ}
 use borrow.Author.Tests.{eq-eqb, ne-eqb}
 use lib.IntN.{ℤ}
 use Rattle.laws.proofs.Tests.{choice-true, choice-false}
+use Rattle.wide.specs.Wide.{halves}
 use Rattle.wide.specs.declared.Wide.{Wide}
 use Rattle.record.specs.Refusals.{recordRefusal}
 use Rattle.record.specs.declared.Demand.{Demand}
@@ -17,10 +18,10 @@ use Rattle.sums.specs.declared.SumAnswer.{SumAnswer}
 -- ---- what is given, and what stands beside a refusal
 
 abbrev pub givenSum : ℕ → ℕ → SumAnswer
-givenSum s count = record { number = 0; place = 0; high = s / 2 ^ 64; low = s % 2 ^ 64; count = count }
+givenSum s count = record { number = 0; place = 0; sum = halves s; count = count }
 
 abbrev pub noSum : Refusal → SumAnswer
-noSum r = record { number = r .number; place = r .place; high = 0; low = 0; count = 0 }
+noSum r = record { number = r .number; place = r .place; sum = halves 0; count = 0 }
 
 -- ---- a sum
 
@@ -33,9 +34,9 @@ module _ (r : Refusal) (s count : ℕ) where
   unfolding sumAnswer
   sum-given nothing = choice-true _ _ (eq-eqb (r .number) 0 nothing)
 
--- a total in two halves with its count
+-- a total with its count
 abbrev pub withCount : ℕ → Wide → SumAnswer
-withCount count total = record { number = 0; place = 0; high = total .hi; low = total .lo; count = count }
+withCount count total = record { number = 0; place = 0; sum = total; count = count }
 
 -- a record that is not refused is sound
 pub record-sound : {d : Demand} {m : ℕ} {xs : List ℤ} {refusal : Refusal} → refusal ≡ recordRefusal d m xs → refusal .number ≡ 0 → Sound d m xs

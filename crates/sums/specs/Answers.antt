@@ -1,9 +1,10 @@
 -- What each entry answers, refusals too: noughts beside every refusal.
 use mathlib.Core.Bool.{Bool, cond}
 use mathlib.Core.List.{List}
-use Prim.Native.Nat.{ℕ, _/_, _%_, _^_}
+use Prim.Native.Nat.{ℕ}
 use lib.Dec.{eqb}
 use lib.IntN.{ℤ}
+use Rattle.wide.specs.Wide.{halves}
 use Rattle.record.specs.Refusals.{recordRefusal}
 use Rattle.record.specs.declared.Refusal.{Refusal}
 use Rattle.record.specs.declared.Demand.{Demand}
@@ -18,23 +19,23 @@ allanDemand = record { largest = 10922; each = 2; besides = 1 }
 abbrev pub modifiedDemand : Demand
 modifiedDemand = record { largest = 10922; each = 3; besides = 0 }
 
--- a sum in two halves with its count, or the refusal and noughts
+-- a sum with its count, or the refusal and noughts
 unfoldable pub sumAnswer : Refusal → ℕ → ℕ → SumAnswer
 sumAnswer r s count =
     cond (eqb (r .number) 0)
-    (record { number = 0; place = 0; high = s / 2 ^ 64; low = s % 2 ^ 64; count = count })
-    (record { number = r .number; place = r .place; high = 0; low = 0; count = 0 })
+    (record { number = 0; place = 0; sum = halves s; count = count })
+    (record { number = r .number; place = r .place; sum = halves 0; count = 0 })
 
--- a sum as a part of an answer: in two halves with its count, or 1 and noughts where it is not due
+-- a sum as a part of an answer: with its count, or 1 and noughts where it is not due
 unfoldable pub partOf : Bool → ℕ → ℕ → Part
 partOf due s count =
     cond due
-    (record { number = 0; high = s / 2 ^ 64; low = s % 2 ^ 64; count = count })
-    (record { number = 1; high = 0; low = 0; count = 0 })
+    (record { number = 0; sum = halves s; count = count })
+    (record { number = 1; sum = halves 0; count = 0 })
 
 -- a part of an answer that is refused as a whole: noughts
 unfoldable pub noPart : Part
-noPart = record { number = 0; high = 0; low = 0; count = 0 }
+noPart = record { number = 0; sum = halves 0; count = 0 }
 
 -- Allan sum: 5, 2, 1, then 3 at the lowest index
 unfoldable pub allanSumAnswer : ℕ → List ℤ → SumAnswer

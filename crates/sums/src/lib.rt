@@ -4,7 +4,9 @@ mod totals;
 
 use record::Demand;
 use record::Refusal;
+use wide::Wide;
 ghost use mathlib.Core.Path.{_≡_};
+ghost use Rattle.wide.specs.Wide.{halves};
 ghost use Rattle.sums.specs.Answers.{allanSumAnswer, modifiedSumAnswer};
 
 // What the Allan sum asks of a record: N at least 2m + 1.
@@ -21,13 +23,12 @@ pub const MODIFIED: Demand = Demand {
     besides: 0,
 };
 
-// A sum of squares in two halves, and its count.
+// A sum of squares, and its count.
 #[repr(C)]
 pub struct SumAnswer {
     pub number: u64,
     pub place: u64,
-    pub high: u64,
-    pub low: u64,
+    pub sum: Wide,
     pub count: u64,
 }
 
@@ -35,10 +36,16 @@ pub struct SumAnswer {
 #[repr(C)]
 pub struct Part {
     pub number: u64,
-    pub high: u64,
-    pub low: u64,
+    pub sum: Wide,
     pub count: u64,
 }
+
+// A part of an answer that is refused as a whole.
+pub const NO_PART: Part = Part {
+    number: 0,
+    sum: Wide { hi: 0, lo: 0 },
+    count: 0,
+};
 
 // The Allan sum A with its count K. Refuses 5, 2, 1, then 3 at the lowest index.
 pub fn allan_sum(samples: &[i64], m: u64) -> SumAnswer
@@ -48,13 +55,12 @@ pub fn allan_sum(samples: &[i64], m: u64) -> SumAnswer
     if refusal.number != 0 {
         return refused_sum(refusal);
     }
-    let total = totals::allan_total(samples, m as usize);
+    let sum = totals::allan_total(samples, m as usize);
     let count = samples.len() as u64 - 2 * m;
     SumAnswer {
         number: 0,
         place: 0,
-        high: total.hi,
-        low: total.lo,
+        sum,
         count,
     }
 }
@@ -67,26 +73,24 @@ pub fn modified_sum(samples: &[i64], m: u64) -> SumAnswer
     if refusal.number != 0 {
         return refused_sum(refusal);
     }
-    let total = totals::modified_total(samples, m as usize);
+    let sum = totals::modified_total(samples, m as usize);
     let count = samples.len() as u64 + 1 - 3 * m;
     SumAnswer {
         number: 0,
         place: 0,
-        high: total.hi,
-        low: total.lo,
+        sum,
         count,
     }
 }
 
 // Noughts beside a refusal.
 fn refused_sum(refusal: Refusal) -> SumAnswer
-    ensures { λ r. ⌜ r ≡ record { number = refusal .number; place = refusal .place; high = 0; low = 0; count = 0 } ⌝ }
+    ensures { λ r. ⌜ r ≡ record { number = refusal .number; place = refusal .place; sum = halves 0; count = 0 } ⌝ }
 {
     SumAnswer {
         number: refusal.number,
         place: refusal.place,
-        high: 0,
-        low: 0,
+        sum: Wide { hi: 0, lo: 0 },
         count: 0,
     }
 }

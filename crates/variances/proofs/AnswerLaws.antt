@@ -1,10 +1,11 @@
 -- Each answer where it is refused and where it is given.
 use mathlib.Core.Path.{_≡_, refl, ap, _∙_}
-use Prim.Native.Nat.{ℕ, _/_, _%_, _^_, _≤_, _<_}
+use Prim.Native.Nat.{ℕ, _^_, _≤_, _<_}
 use borrow.Author.Tests.{eq-eqb, ne-eqb, lt-ltb, le-ltb}
 use native.Mathlib.Omega.{arith}
 use lib.Dec.{ltb}
 use Rattle.laws.proofs.Tests.{choice-true, choice-false}
+use Rattle.wide.specs.Wide.{halves}
 use Rattle.record.specs.Refusals.{none, refused, refusedIf}
 use Rattle.record.specs.declared.Refusal.{Refusal}
 use Rattle.record.proofs.RefusalLaws.{refusal-stands, none-gives-way}
@@ -19,10 +20,10 @@ use Rattle.variances.proofs.FigureLaws.{Allowed, allowed-none}
 -- ---- what is given, and what stands beside a refusal
 
 abbrev pub givenFraction : Fraction → FractionAnswer
-givenFraction f = record { number = 0; place = 0; high = f .numerator / 2 ^ 64; low = f .numerator % 2 ^ 64; denominator = f .denominator }
+givenFraction f = record { number = 0; place = 0; numerator = halves (f .numerator); denominator = f .denominator }
 
 abbrev pub noFraction : Refusal → FractionAnswer
-noFraction r = record { number = r .number; place = r .place; high = 0; low = 0; denominator = 0 }
+noFraction r = record { number = r .number; place = r .place; numerator = halves 0; denominator = 0 }
 
 abbrev pub givenDeviation : ℕ → DeviationAnswer
 givenDeviation r = record { number = 0; place = 0; deviation = r }
@@ -46,17 +47,12 @@ module _ (s m count : ℕ) where
   no-number : Allowed s m count → figureRefusal s m count .number ≡ 0
   no-number allowed = ap (λ (r : Refusal). r .number) (allowed-none s m count allowed)
 
-  pub allan-fraction-refused : (figureRefusal s m count .number ≡ 0 → ⊥) → allanFractionAnswer s m count ≡ noFraction (figureRefusal s m count)
-  unfolding allanFractionAnswer
-  allan-fraction-refused some = fraction-refused _ _ some
+  pub fraction-allowed : (f : Fraction) → Allowed s m count → fractionAnswer (figureRefusal s m count) f ≡ fractionAnswer none f
+  fraction-allowed f allowed = ap (λ (r : Refusal). fractionAnswer r f) (allowed-none s m count allowed)
 
   pub allan-fraction-given : Allowed s m count → allanFractionAnswer s m count ≡ givenFraction (lowestTerms s (allanDenominator m count))
   unfolding allanFractionAnswer
   allan-fraction-given allowed = fraction-given _ _ (no-number allowed)
-
-  pub time-fraction-refused : (figureRefusal s m count .number ≡ 0 → ⊥) → timeFractionAnswer s m count ≡ noFraction (figureRefusal s m count)
-  unfolding timeFractionAnswer
-  time-fraction-refused some = fraction-refused _ _ some
 
   pub time-fraction-given : Allowed s m count → timeFractionAnswer s m count ≡ givenFraction (lowestTerms s (timeDenominator m count))
   unfolding timeFractionAnswer
@@ -85,11 +81,11 @@ module _ (r : ℕ) where
   not-above-given most = rw (le-ltb (2 ^ 62) r most) (deviation-given none r refl)
 
 module _ (s m count r : ℕ) where
-  figure-refused : (figureRefusal s m count .number ≡ 0 → ⊥) → deviationAnswer (deviationRefusal s m count r) r ≡ noDeviation (figureRefusal s m count)
+  pub figure-refused : (figureRefusal s m count .number ≡ 0 → ⊥) → deviationAnswer (deviationRefusal s m count r) r ≡ noDeviation (figureRefusal s m count)
   unfolding deviationRefusal
   figure-refused some = ap (λ (t : Refusal). deviationAnswer t r) (refusal-stands (figureRefusal s m count) (largeRefusal r) some) ∙ deviation-refused _ r some
 
-  figure-allowed : Allowed s m count → deviationAnswer (deviationRefusal s m count r) r ≡ deviationAnswer (largeRefusal r) r
+  pub figure-allowed : Allowed s m count → deviationAnswer (deviationRefusal s m count r) r ≡ deviationAnswer (largeRefusal r) r
   unfolding deviationRefusal
   figure-allowed allowed = ap (λ (t : Refusal). deviationAnswer t r) (none-gives-way (figureRefusal s m count) (largeRefusal r) (no-number s m count allowed))
 

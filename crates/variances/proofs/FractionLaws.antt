@@ -117,7 +117,7 @@ module _ (n d : ℕ) (some : 0 < d) {first : Division} (first-is : first ≡ div
   divisor-above-nought = rw divisor-is-gcd (gcd-above-nought n d some)
 
   abbrev reducedTo : Wide → ℕ → FractionAnswer
-  reducedTo numerator denominator = record { number = 0; place = 0; high = numerator .hi; low = numerator .lo; denominator = denominator }
+  reducedTo numerator denominator = record { number = 0; place = 0; numerator = numerator; denominator = denominator }
 
   pub lowest-by-divisor : {reduced : Division} → reduced ≡ divisionOf n divisor → reducedTo (reduced .quotient) (d / divisor) ≡ fractionAnswer none (lowestTerms n d)
   unfolding fractionAnswer lowestTerms

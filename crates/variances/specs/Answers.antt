@@ -1,7 +1,8 @@
 -- What each entry answers, refusals too: noughts beside every refusal.
 use mathlib.Core.Bool.{cond, not, _&&_}
-use Prim.Native.Nat.{ℕ, _/_, _%_, _^_}
+use Prim.Native.Nat.{ℕ, _^_}
 use lib.Dec.{leb, ltb, eqb}
+use Rattle.wide.specs.Wide.{halves}
 use Rattle.record.specs.Refusals.{refusedIf, _then_}
 use Rattle.record.specs.declared.Refusal.{Refusal}
 use Rattle.sums.specs.Published.{allanDenominator, timeDenominator}
@@ -22,8 +23,8 @@ figureRefusal s m count =
 unfoldable pub fractionAnswer : Refusal → Fraction → FractionAnswer
 fractionAnswer r f =
     cond (eqb (r .number) 0)
-    (record { number = 0; place = 0; high = f .numerator / 2 ^ 64; low = f .numerator % 2 ^ 64; denominator = f .denominator })
-    (record { number = r .number; place = r .place; high = 0; low = 0; denominator = 0 })
+    (record { number = 0; place = 0; numerator = halves (f .numerator); denominator = f .denominator })
+    (record { number = r .number; place = r .place; numerator = halves 0; denominator = 0 })
 
 -- the Allan variance A / (2 m^2 K) and the time variance B / (6 m^2 C) in lowest terms
 unfoldable pub allanFractionAnswer : ℕ → ℕ → ℕ → FractionAnswer

@@ -1,22 +1,35 @@
 // Deviations: the greatest r with r^2 D not above A times 2^40, bit by bit.
 use crate::DeviationAnswer;
+use crate::refusals::figure_refusal;
 use record::Refusal;
 use wide::Wide;
 ghost use mathlib.Core.Path.{_≡_};
 ghost use mathlib.Core.Bool.{cond, false};
-ghost use Prim.Native.Nat.{_+_, _<_, _^_};
+ghost use Prim.Native.Nat.{_+_, _*_, _≤_, _<_, _^_};
 ghost use lib.Dec.{ltb};
 ghost use Rattle.wide.specs.Wide.{value};
 ghost use Rattle.record.specs.Refusals.{refusedIf};
 ghost use Rattle.variances.specs.Deviations.{within};
 ghost use Rattle.variances.specs.Deviations.{deviation as greatestWithin};
-ghost use Rattle.variances.specs.Answers.{deviationAnswer};
+ghost use Rattle.variances.specs.Answers.{deviationRefusal, deviationAnswer};
 
 // A deviation is at most this many units of 2^-20 picoseconds: 2^62.
 const LARGEST_DEVIATION: u64 = 4611686018427387904;
 
+// The deviation of the variance sum / (scale m^2 count), or what is refused; the scale is 2 for Allan, 6 for time.
+pub(crate) fn of_variance(scale: u64, sum: Wide, m: u64, count: u64) -> DeviationAnswer
+    requires { ⌜ (0 < scale) × (scale ≤ 6) ⌝ }
+    ensures { λ r. ⌜ r ≡ deviationAnswer (deviationRefusal (value sum) m count (greatestWithin (value sum) (scale * (m * m) * count))) (greatestWithin (value sum) (scale * (m * m) * count)) ⌝ }
+{
+    let refusal = figure_refusal(sum, m, count);
+    if refusal.number != 0 {
+        return refused(refusal);
+    }
+    deviation(sum, scale * (m * m) * count)
+}
+
 // The deviation of sum / d, or 3 where it would be above 2^62.
-pub(crate) fn deviation(sum: Wide, d: u64) -> DeviationAnswer
+fn deviation(sum: Wide, d: u64) -> DeviationAnswer
     requires { ⌜ (0 < d) × (value sum < 2 ^ 126) ⌝ }
     ensures { λ r. ⌜ r ≡ deviationAnswer (refusedIf (ltb (2 ^ 62) (greatestWithin (value sum) d)) 3 0) (greatestWithin (value sum) d) ⌝ }
 {
@@ -35,7 +48,7 @@ pub(crate) fn deviation(sum: Wide, d: u64) -> DeviationAnswer
 }
 
 // Nought beside a refusal.
-pub(crate) fn refused(refusal: Refusal) -> DeviationAnswer
+fn refused(refusal: Refusal) -> DeviationAnswer
     ensures { λ r. ⌜ r ≡ record { number = refusal .number; place = refusal .place; deviation = 0 } ⌝ }
 {
     DeviationAnswer {

@@ -9,13 +9,12 @@ ghost use mathlib.Core.Path.{_≡_};
 ghost use Rattle.wide.specs.Wide.{value};
 ghost use Rattle.variances.specs.Answers.{allanFractionAnswer, timeFractionAnswer, allanDeviationAnswer, timeDeviationAnswer};
 
-// A fraction in lowest terms, its numerator in two halves.
+// A fraction in lowest terms.
 #[repr(C)]
 pub struct FractionAnswer {
     pub number: u64,
     pub place: u64,
-    pub high: u64,
-    pub low: u64,
+    pub numerator: Wide,
     pub denominator: u64,
 }
 
@@ -31,42 +30,26 @@ pub struct DeviationAnswer {
 pub fn allan_fraction(sum: Wide, m: u64, count: u64) -> FractionAnswer
     ensures { λ r. ⌜ r ≡ allanFractionAnswer (value sum) m count ⌝ }
 {
-    let refusal = refusals::figure_refusal(sum, m, count);
-    if refusal.number != 0 {
-        return fractions::refused(refusal);
-    }
-    fractions::lowest(sum, 2 * (m * m) * count)
+    fractions::variance(2, sum, m, count)
 }
 
 // The time variance B / (6 m^2 C) in lowest terms. Refuses 5, 1, 2, then 3.
 pub fn time_fraction(sum: Wide, m: u64, count: u64) -> FractionAnswer
     ensures { λ r. ⌜ r ≡ timeFractionAnswer (value sum) m count ⌝ }
 {
-    let refusal = refusals::figure_refusal(sum, m, count);
-    if refusal.number != 0 {
-        return fractions::refused(refusal);
-    }
-    fractions::lowest(sum, 6 * (m * m) * count)
+    fractions::variance(6, sum, m, count)
 }
 
 // The deviation of the Allan variance. Refuses 5, 1, 2, 3 for the sum, then 3 where it would be above 2^62.
 pub fn allan_deviation(sum: Wide, m: u64, count: u64) -> DeviationAnswer
     ensures { λ r. ⌜ r ≡ allanDeviationAnswer (value sum) m count ⌝ }
 {
-    let refusal = refusals::figure_refusal(sum, m, count);
-    if refusal.number != 0 {
-        return deviations::refused(refusal);
-    }
-    deviations::deviation(sum, 2 * (m * m) * count)
+    deviations::of_variance(2, sum, m, count)
 }
 
 // The deviation of the time variance. Refuses 5, 1, 2, 3 for the sum, then 3 where it would be above 2^62.
 pub fn time_deviation(sum: Wide, m: u64, count: u64) -> DeviationAnswer
     ensures { λ r. ⌜ r ≡ timeDeviationAnswer (value sum) m count ⌝ }
 {
-    let refusal = refusals::figure_refusal(sum, m, count);
-    if refusal.number != 0 {
-        return deviations::refused(refusal);
-    }
-    deviations::deviation(sum, 6 * (m * m) * count)
+    deviations::of_variance(6, sum, m, count)
 }

@@ -1,4 +1,4 @@
--- `record::drift::drift_figure` meets its contract.
+-- `drift::drift_figure` meets its contract.
 use borrow.Author.Needs.{needs}
 use native.Mathlib.Omega.{arith}
 use Rattle.drift.proofs.DriftLaws.{unrefused-drifting, unrefused-drift-none, figure-refused, figure-answered}

@@ -1,4 +1,4 @@
--- `record::drift::drift_refusal` meets its contract.
+-- `drift::drift_refusal` meets its contract.
 use borrow.Author.Needs.{needs}
 use mathlib.Core.Path.{sym, _∙_}
 use native.Mathlib.Omega.{arith}

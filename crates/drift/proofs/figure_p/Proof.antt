@@ -1,4 +1,4 @@
--- `record::drift::figure_p` meets its contract: samples in range keep each step within a word.
+-- `drift::figure_p` meets its contract: samples in range keep each step within a word.
 use borrow.Author.Needs.{needs}
 use native.Mathlib.Omega.{arith}
 use mir.Syntax.{w64}

@@ -1,4 +1,4 @@
--- `record::drift::first_outside` meets its contract. The loop's invariant: no result below `i` lies outside the sample range.
+-- `drift::first_outside` meets its contract. The loop's invariant: no result below `i` lies outside the sample range.
 use mathlib.Core.Path.{_≡_, sym}
 use Prim.Native.Nat.{_≤_, _-_, _+_}
 use native.Mathlib.Omega.{arith}

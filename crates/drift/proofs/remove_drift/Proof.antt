@@ -1,4 +1,4 @@
--- `record::drift::remove_drift` meets its contract: every refusal comes before the first entry is written.
+-- `drift::remove_drift` meets its contract: every refusal comes before the first entry is written.
 use borrow.Author.Needs.{needs}
 use native.Mathlib.Omega.{arith}
 use Rattle.record.proofs.AnswerLaws.{call-refused, call-answered}

@@ -1,4 +1,4 @@
--- `record::drift::result_at` meets its contract: the floor is taken apart, and each step fits a word.
+-- `drift::result_at` meets its contract: the floor is taken apart, and each step fits a word.
 use borrow.Author.Needs.{needs}
 use native.Mathlib.Omega.{arith}
 use mir.Syntax.{w64}

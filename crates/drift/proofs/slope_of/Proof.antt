@@ -1,4 +1,4 @@
--- `record::drift::slope_of` meets its contract: P is rounded down on either side of nought.
+-- `drift::slope_of` meets its contract: P is rounded down on either side of nought.
 use borrow.Author.Needs.{needs}
 use native.Mathlib.Omega.{arith}
 use mir.Syntax.{w64}

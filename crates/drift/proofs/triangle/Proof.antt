@@ -1,4 +1,4 @@
--- `record::drift::triangle` meets its contract: one of two neighbours is even.
+-- `drift::triangle` meets its contract: one of two neighbours is even.
 use borrow.Author.Needs.{needs}
 use mathlib.Core.Path.{sym, ap}
 use Prim.Native.Nat.{ℕ, _-_, _*_}

@@ -1,4 +1,4 @@
--- `record::drift::write_results` meets its contract. The loop's invariant: the results below `i` are written, and the entries past them are as
+-- `drift::write_results` meets its contract. The loop's invariant: the results below `i` are written, and the entries past them are as
 -- they came.
 use mathlib.Core.Path.{_≡_, refl, _∙_}
 use Prim.Native.Nat.{_≤_, _-_}

@@ -1,4 +1,4 @@
--- `record::frequency::first_leaving` meets its contract. The loop's invariant: the phase is the sum of the readings below `i`, and none of them
+-- `frequency::first_leaving` meets its contract. The loop's invariant: the phase is the sum of the readings below `i`, and none of them
 -- took it out of its range.
 use mathlib.Core.Path.{sym}
 use Prim.Native.Nat.{_-_}

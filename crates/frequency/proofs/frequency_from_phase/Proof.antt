@@ -1,4 +1,4 @@
--- `record::frequency::frequency_from_phase` meets its contract.
+-- `frequency::frequency_from_phase` meets its contract.
 use borrow.Author.Needs.{needs}
 use mathlib.Core.Path.{sym, _∙_}
 use native.Mathlib.Omega.{arith}

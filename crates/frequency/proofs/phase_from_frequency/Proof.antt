@@ -1,4 +1,4 @@
--- `record::frequency::phase_from_frequency` meets its contract.
+-- `frequency::phase_from_frequency` meets its contract.
 use borrow.Author.Needs.{needs}
 use native.Mathlib.Omega.{arith}
 use Rattle.record.proofs.AnswerLaws.{call-refused, call-answered}

@@ -1,4 +1,4 @@
--- `record::frequency::stays` meets its contract: a reading within 2^41 is added in a word, and one beyond it leaves the range unadded.
+-- `frequency::stays` meets its contract: a reading within 2^41 is added in a word, and one beyond it leaves the range unadded.
 use borrow.Author.Needs.{needs}
 use mathlib.Core.Path.{sym, ap, _∙_}
 use native.Mathlib.Omega.{arith}

@@ -1,4 +1,4 @@
--- `record::frequency::write_differences` meets its contract. The loop's invariant: the first `i` differences are written.
+-- `frequency::write_differences` meets its contract. The loop's invariant: the first `i` differences are written.
 use mathlib.Core.Path.{_≡_, refl, _∙_}
 use Prim.Native.Nat.{_-_, _≤_}
 use native.Mathlib.Omega.{arith}

@@ -1,4 +1,4 @@
--- `record::frequency::write_phases` meets its contract. The loop's invariant: the phase is the sum of the readings below `i`, and the first `i`
+-- `frequency::write_phases` meets its contract. The loop's invariant: the phase is the sum of the readings below `i`, and the first `i`
 -- phases are written.
 use Prim.Native.Nat.{_-_}
 use native.Mathlib.Omega.{arith}

@@ -1,54 +1,16 @@
 -- `variances::time_fraction` meets its contract.
-use borrow.Author.Needs.{needs}
-use mathlib.Core.Path.{sym, ap, _∙_}
 use native.Mathlib.Omega.{arith}
-use Rattle.wide.specs.Wide.{value}
 use Rattle.sums.specs.Published.{timeDenominator}
-use Rattle.variances.specs.Answers.{fractionAnswer}
-use Rattle.variances.proofs.AnswerLaws.{noFraction, time-fraction-refused, time-fraction-given}
-use Rattle.variances.proofs.FigureLaws.{Allowed, nothing-refused, square-fits, scaled-square-fits, denominator-fits, denominator-above-nought}
+use Rattle.variances.specs.Answers.{timeFractionAnswer}
 use Rattle.variances.proofs.time_fraction.Statement.{statement}
 use Rattle.variances.proofs.time_fraction.Tie as tie
 
-figure-refusal-requires : tie.Need-figure-refusal-requires
-figure-refusal-requires c κs = search needs
-
-refused-requires : tie.Need-refused-requires
-refused-requires c κs = search needs
+variance-requires : tie.Need-variance-requires
+variance-requires c κs = (omega arith, omega arith)
 
 returns : tie.Need-returns
-returns c =
-    let refusal = c .before .before .before .figure-refusal .ensures in
-    c .refused .ensures ∙ ap noFraction refusal ∙ sym (time-fraction-refused _ _ _ (rw refusal at (c .before .if1 .taken)))
-
-allowed : (c : tie.Else1) → let x = c .before .before .before .args in Allowed (value (x .sum)) (x .m) (x .count)
-allowed c = nothing-refused (c .before .before .figure-refusal .ensures) (c .if1 .left)
-
-mul-lowest : tie.Need-mul-lowest
-mul-lowest c = square-fits (allowed c)
-
-mul-lowest-2 : tie.Need-mul-lowest-2
-mul-lowest-2 c = scaled-square-fits (allowed c) _ (omega arith)
-
-mul-lowest-3 : tie.Need-mul-lowest-3
-mul-lowest-3 c = denominator-fits (allowed c) _ (omega arith)
-
-lowest-requires : tie.Need-lowest-requires
-lowest-requires c κs = denominator-above-nought (allowed c) _ (omega arith)
-
-returns-2 : tie.Need-returns-2
-unfolding fractionAnswer timeDenominator
-returns-2 c = c .lowest .ensures ∙ sym (time-fraction-given _ _ _ (allowed (c .before)))
+unfolding timeFractionAnswer timeDenominator
+returns c = c .variance .ensures
 
 pub time-fraction-spec : {M : Type 1} → statement M
-time-fraction-spec =
-    tie.close
-    (tie.spec
-    figure-refusal-requires
-    refused-requires
-    returns
-    mul-lowest
-    mul-lowest-2
-    mul-lowest-3
-    lowest-requires
-    returns-2)
+time-fraction-spec = tie.close (tie.spec variance-requires returns)

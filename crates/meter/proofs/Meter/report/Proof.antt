@@ -1,6 +1,7 @@
 -- `meter::Meter::report` meets its contract.
 use borrow.Author.Needs.{needs}
-use mathlib.Core.Path.{sym, _∙_}
+use mathlib.Core.Path.{refl, sym, _∙_}
+use Rattle.sums.specs.Answers.{noPart}
 use Rattle.meter.proofs.AnswerLaws.{report-given, report-refused}
 use Rattle.meter.proofs.Meter.report.Statement.{statement}
 use Rattle.meter.proofs.Meter.report.Tie as tie
@@ -19,16 +20,9 @@ returns c =
     let h = c .before .before in
     report-given _ (sym (h .before .holds-together .ensures) ∙ h .if1 .taken) (c .before .allan-part .ensures) (c .modified-part .ensures)
 
-no-part-requires : tie.Need-no-part-requires
-no-part-requires c κs = search needs
-
-no-part-requires-2 : tie.Need-no-part-requires-2
-no-part-requires-2 c κs = search needs
-
 returns-2 : tie.Need-returns-2
-returns-2 c =
-    let h = c .before .before in
-    report-refused _ (sym (h .before .holds-together .ensures) ∙ h .if1 .left) (c .before .no-part .ensures) (c .no-part2 .ensures)
+unfolding noPart
+returns-2 c = report-refused _ (sym (c .before .holds-together .ensures) ∙ c .if1 .left) refl
 
 pub report-spec : {M : Type 1} → statement M
 report-spec =
@@ -38,6 +32,4 @@ report-spec =
     allan-part-requires
     modified-part-requires
     returns
-    no-part-requires
-    no-part-requires-2
     returns-2)
