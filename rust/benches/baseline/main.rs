@@ -3,6 +3,7 @@
 mod straightforward;
 
 use independent::file::{file_of, Kind};
+use ploegelster::{boundary, Meter};
 use std::hint::black_box;
 use std::time::Instant;
 
@@ -58,9 +59,20 @@ fn sums(samples: &[i64], m: u64) {
     compare("modified sum", m, || ploegelster::modified_sum(black_box(samples), m), || straightforward::modified_sum(black_box(samples), m));
 }
 
-/// A whole stream through the library's meter.
-fn library_stream(samples: &[i64], m: u64, ring: &mut [i64]) -> ploegelster::Meter {
-    let mut meter = ploegelster::meter_start(ploegelster::Meter::NOUGHTS, m, ring).expect("the factor and the ring are good");
+/// A whole stream through the library's meter, over the plain C interface.
+fn library_stream(samples: &[i64], m: u64, ring: &mut [i64]) -> Meter {
+    let mut meter = ploegelster::meter_start(Meter::NOUGHTS, m, ring).expect("the factor and the ring are good");
+    for &x in samples {
+        let answer = unsafe { boundary::plg_meter_sample(meter, ring.as_mut_ptr(), ring.len(), x) };
+        assert_eq!(answer.number, 0);
+        meter = answer.meter;
+    }
+    meter
+}
+
+/// The same through the wrapper, which copies each meter once more.
+fn wrapped_stream(samples: &[i64], m: u64, ring: &mut [i64]) -> Meter {
+    let mut meter = ploegelster::meter_start(Meter::NOUGHTS, m, ring).expect("the factor and the ring are good");
     for &x in samples {
         meter = ploegelster::meter_sample(meter, ring, x).expect("a sample in range is taken");
     }
@@ -75,13 +87,13 @@ fn plain_stream(samples: &[i64], m: u64, ring: &mut [i64]) -> straightforward::M
     meter
 }
 
-fn meter(samples: &[i64], m: u64) {
+fn meter(samples: &[i64], m: u64, work: &str, stream: fn(&[i64], u64, &mut [i64]) -> Meter) {
     let (mut ring, mut plain_ring) = (vec![0; 3 * m as usize], vec![0; 3 * m as usize]);
-    let (ours, theirs) = (library_stream(samples, m, &mut ring), plain_stream(samples, m, &mut plain_ring));
+    let (ours, theirs) = (stream(samples, m, &mut ring), plain_stream(samples, m, &mut plain_ring));
     assert_eq!((u128::from(ours.a), u128::from(ours.b), ours.window), (theirs.a, theirs.b, theirs.window));
     assert_eq!(ring, plain_ring);
-    let library = || library_stream(black_box(samples), m, &mut ring);
-    compare("meter, a sample", m, library, || plain_stream(black_box(samples), m, &mut plain_ring));
+    let library = || stream(black_box(samples), m, &mut ring);
+    compare(work, m, library, || plain_stream(black_box(samples), m, &mut plain_ring));
 }
 
 fn file(samples: &[i64]) {
@@ -103,7 +115,10 @@ fn main() {
         sums(&samples, m);
     }
     for m in [1, 100, 5_000] {
-        meter(&samples, m);
+        meter(&samples, m, "meter, a sample", library_stream);
+    }
+    for m in [1, 100, 5_000] {
+        meter(&samples, m, "meter, a sample, by the wrapper", wrapped_stream);
     }
     file(&samples);
 }
