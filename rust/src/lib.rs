@@ -1,16 +1,82 @@
-//! Ploegelster for Rust: the proved library behind safe functions, slices in and structs out.
+//! Ploegelster for Rust: proved clock statistics behind safe functions.
 //!
-//! Each function is the entry of the same name in include/ploegelster.h, where its refusals stand in their order. The library keeps no state and
-//! calls nothing, and a slice meets all that it asks of a pointer and a length: not null, aligned, good for its length, and, if it is lent for
-//! writing, lent to nobody else. That is why every call below is sound.
+//! A record is a slice of phase samples, whole picoseconds. From a record to its Allan deviation at factor 1, and what a refusal looks like:
+//!
+//! ```
+//! use ploegelster::{allan_deviation, allan_sum, drawn_number, Ground, Refusal, SAMPLE_END};
+//!
+//! fn deviation(samples: &[i64], m: u64) -> Result<f64, Refusal> {
+//!     let sum = allan_sum(samples, m)?;
+//!     let r = allan_deviation(sum.total, m, sum.count)?;
+//!     drawn_number(r)
+//! }
+//!
+//! let mut samples = [0, 1, 4, 9, 16, 25, 36, 49, 64];
+//! assert_eq!(format!("{:.6}", deviation(&samples, 1)?), "1.414213");
+//!
+//! samples[7] = SAMPLE_END + 1;
+//! let refusal = deviation(&samples, 1).unwrap_err();
+//! assert_eq!(refusal, Refusal { ground: Ground::OutOfRange, place: 7 });
+//! assert_eq!(refusal.to_string(), "refused 3, a value outside its range, at 7");
+//! # Ok::<(), Refusal>(())
+//! ```
+//!
+//! Every input is answered, or refused by a [`Ground`] and a place. A function lists what it refuses by number, in the order in which the tests are
+//! made; the first that fails is the answer. After a refusal every lent buffer is as it was.
+//!
+//! Each function is the entry of the same name in include/ploegelster.h, with Rust's types for C's; [`boundary`] is the plain C interface under it.
+//! The library's promises are proved of its own code. What this crate adds is plain Rust, and tested against a second implementation.
 
+#![deny(missing_docs)]
+
+// Every call of the library in this crate is sound: it keeps no state and calls nothing, and a slice meets all that it asks of a pointer and a
+// length. It is not null, aligned, good for its length and, if it is lent for writing, lent to nobody else.
 pub mod boundary;
-pub mod independent;
 
-pub use boundary::{
-    Bar, BarsAnswer, CountAnswer, DeviationAnswer, DotAnswer, DrawnAnswer, DriftAnswer, FractionAnswer, Meter, MeterAnswer, NoiseAnswer, Part,
-    ReadAnswer, SumAnswer, SumsAnswer, Wide,
-};
+mod file;
+mod meter;
+mod plot;
+mod records;
+mod refusals;
+mod sums;
+
+pub use boundary::{Meter, Wide};
+pub use file::{file_length, read_file, write_file, Contents, Kind};
+pub use meter::{meter_report, meter_sample, meter_start};
+pub use plot::{allan_dot, bars, drawn_number, noise_of_record, noise_type, time_dot, Bars, Dot, Noise};
+pub use records::{drift_figure, float_sums, frequency_from_phase, phase_from_frequency, remove_drift, Drift};
+pub use refusals::{refusal_text, Ground, Refusal};
+pub use sums::{allan_deviation, allan_fraction, allan_sum, modified_sum, time_deviation, time_fraction, Fraction, Sum, Sums};
+
+/// A record has at most this many samples, and a count that is handed in is at most this.
+pub const MOST_SAMPLES: usize = 32_768;
+
+/// A frequency record has at most this many readings.
+pub const MOST_READINGS: usize = 32_767;
+
+/// The factor m runs from 1 to this.
+pub const LARGEST_FACTOR: u64 = 10_922;
+
+/// The factor of a record's noise type runs from 1 to this.
+pub const LARGEST_NOISE_FACTOR: u64 = 5_461;
+
+/// A phase sample lies from minus this to this, in picoseconds, ends allowed.
+pub const SAMPLE_END: i64 = 1 << 40;
+
+/// A frequency value of a file lies from minus this to this, in picoseconds per basic interval, ends allowed.
+pub const FREQUENCY_END: i64 = 1 << 41;
+
+/// A deviation lies from 0 to this.
+pub const LARGEST_DEVIATION: u64 = 1 << 62;
+
+/// Bars need at least this many intervals.
+pub const FEWEST_INTERVALS: u64 = 10;
+
+/// Bars take at most this many intervals.
+pub const MOST_INTERVALS: u64 = 32_767;
+
+/// A deviation counts in this many parts of a picosecond: 2^20.
+pub const UNITS_A_PICOSECOND: u64 = 1 << 20;
 
 impl From<u128> for Wide {
     fn from(value: u128) -> Wide {
@@ -22,119 +88,4 @@ impl From<Wide> for u128 {
     fn from(wide: Wide) -> u128 {
         (wide.high as u128) << 64 | wide.low as u128
     }
-}
-
-impl Meter {
-    /// The meter of all noughts, which the first start replaces.
-    pub const NOUGHTS: Meter = Meter { m: 0, n: 0, a: Wide { high: 0, low: 0 }, b: Wide { high: 0, low: 0 }, window: 0 };
-}
-
-/// The Allan sum A at factor m, with its count K.
-pub fn allan_sum(samples: &[i64], m: u64) -> SumAnswer {
-    unsafe { boundary::plg_allan_sum(samples.as_ptr(), samples.len(), m) }
-}
-
-/// The modified sum B at factor m, with its count C.
-pub fn modified_sum(samples: &[i64], m: u64) -> SumAnswer {
-    unsafe { boundary::plg_modified_sum(samples.as_ptr(), samples.len(), m) }
-}
-
-/// The Allan variance in lowest terms.
-pub fn allan_fraction(sum: Wide, m: u64, count: u64) -> FractionAnswer {
-    unsafe { boundary::plg_allan_fraction(sum, m, count) }
-}
-
-/// The time variance in lowest terms.
-pub fn time_fraction(sum: Wide, m: u64, count: u64) -> FractionAnswer {
-    unsafe { boundary::plg_time_fraction(sum, m, count) }
-}
-
-/// The Allan deviation.
-pub fn allan_deviation(sum: Wide, m: u64, count: u64) -> DeviationAnswer {
-    unsafe { boundary::plg_allan_deviation(sum, m, count) }
-}
-
-/// The time deviation.
-pub fn time_deviation(sum: Wide, m: u64, count: u64) -> DeviationAnswer {
-    unsafe { boundary::plg_time_deviation(sum, m, count) }
-}
-
-/// Phases from frequency readings, written to the buffer.
-pub fn phase_from_frequency(readings: &[i64], buffer: &mut [i64]) -> CountAnswer {
-    unsafe { boundary::plg_phase_from_frequency(readings.as_ptr(), readings.len(), buffer.as_mut_ptr(), buffer.len()) }
-}
-
-/// Frequency readings from phases, written to the buffer.
-pub fn frequency_from_phase(samples: &[i64], buffer: &mut [i64]) -> CountAnswer {
-    unsafe { boundary::plg_frequency_from_phase(samples.as_ptr(), samples.len(), buffer.as_mut_ptr(), buffer.len()) }
-}
-
-/// The drift figure P over R.
-pub fn drift_figure(samples: &[i64]) -> DriftAnswer {
-    unsafe { boundary::plg_drift_figure(samples.as_ptr(), samples.len()) }
-}
-
-/// The record with its drift removed, written to the buffer.
-pub fn remove_drift(samples: &[i64], buffer: &mut [i64]) -> CountAnswer {
-    unsafe { boundary::plg_remove_drift(samples.as_ptr(), samples.len(), buffer.as_mut_ptr(), buffer.len()) }
-}
-
-/// Samples from doubles, written to the buffer, and both sums of them.
-pub fn float_sums(readings: &[f64], m: u64, buffer: &mut [i64]) -> SumsAnswer {
-    unsafe { boundary::plg_float_sums(readings.as_ptr(), readings.len(), m, buffer.as_mut_ptr(), buffer.len()) }
-}
-
-/// The greatest double not above r / 2^20.
-pub fn drawn_number(r: u64) -> DrawnAnswer {
-    unsafe { boundary::plg_drawn_number(r) }
-}
-
-/// The dot of an Allan deviation.
-pub fn allan_dot(sum: Wide, m: u64, count: u64) -> DotAnswer {
-    unsafe { boundary::plg_allan_dot(sum, m, count) }
-}
-
-/// The dot of a time deviation.
-pub fn time_dot(sum: Wide, m: u64, count: u64) -> DotAnswer {
-    unsafe { boundary::plg_time_dot(sum, m, count) }
-}
-
-/// The noise type by the time deviations at m and 2m.
-pub fn noise_type(r1: u64, r2: u64) -> NoiseAnswer {
-    unsafe { boundary::plg_noise_type(r1, r2) }
-}
-
-/// The noise type of a record at factor m.
-pub fn noise_of_record(samples: &[i64], m: u64) -> NoiseAnswer {
-    unsafe { boundary::plg_noise_of_record(samples.as_ptr(), samples.len(), m) }
-}
-
-/// The bars of deviation r, for noise of type alpha over M intervals.
-pub fn bars(r: u64, alpha: i64, intervals: u64) -> BarsAnswer {
-    unsafe { boundary::plg_bars(r, alpha, intervals) }
-}
-
-/// A fresh meter at factor m in place of an old one; the ring becomes its own.
-pub fn meter_start(old: Meter, m: u64, ring: &[i64]) -> MeterAnswer {
-    unsafe { boundary::plg_meter_start(old, m, ring.as_ptr(), ring.len()) }
-}
-
-/// The meter with one more sample, which is written to its slot of the ring.
-pub fn meter_sample(meter: Meter, ring: &mut [i64], x: i64) -> MeterAnswer {
-    unsafe { boundary::plg_meter_sample(meter, ring.as_mut_ptr(), ring.len(), x) }
-}
-
-/// Both sums of the samples accepted since the start.
-pub fn meter_report(meter: Meter) -> SumsAnswer {
-    unsafe { boundary::plg_meter_report(meter) }
-}
-
-/// A file's values, written to the buffer.
-pub fn read_file(bytes: &[u8], buffer: &mut [i64]) -> ReadAnswer {
-    unsafe { boundary::plg_read_file(bytes.as_ptr(), bytes.len(), buffer.as_mut_ptr(), buffer.len()) }
-}
-
-/// The file of a kind and its values, written to the buffer.
-pub fn write_file(kind: u64, values: &[i64], buffer: &mut [u8]) -> CountAnswer {
-    unsafe { boundary::plg_write_file(kind, values.as_ptr(), values.len(), buffer.as_mut_ptr(), buffer.len()) }
 }

@@ -1,22 +1,61 @@
-//! The declarations that the other tests call through are those of include/ploegelster.h, struct by struct and function by function.
+//! The declarations that the other tests call through are those of include/ploegelster.h, struct by struct and function by function, and its version,
+//! its numbers and its words are this crate's.
 
-use std::collections::BTreeSet;
+use ploegelster::{refusal_text, Ground, Kind, Noise};
+use std::collections::{BTreeMap, BTreeSet};
 
 const HEADER: &str = include_str!("../../include/ploegelster.h");
 const BOUNDARY: &str = include_str!("../src/boundary.rs");
 
-/// The text without comments, and with single spaces.
-fn plain(text: &str, starts: &str, ends: &str) -> String {
+/// The text without what stands from each start to its end.
+fn without(text: &str, starts: &str, ends: &str) -> String {
     let mut rest = text;
     let mut kept = String::new();
     while let Some(start) = rest.find(starts) {
         kept += &rest[..start];
-        let after = &rest[start..];
+        let after = &rest[start + starts.len()..];
         rest = &after[after.find(ends).unwrap() + ends.len()..];
-        kept.push(' ');
+        kept.push('\n');
     }
-    kept += rest;
-    kept.split_whitespace().collect::<Vec<_>>().join(" ")
+    kept + rest
+}
+
+fn single_spaced(text: &str) -> String {
+    text.split_whitespace().collect::<Vec<_>>().join(" ")
+}
+
+/// The header without comments.
+fn header() -> String {
+    without(HEADER, "/*", "*/")
+}
+
+/// Where the first brace of a text opens, and where its block ends.
+fn block(text: &str) -> std::ops::Range<usize> {
+    let start = text.find('{').expect("a brace opens");
+    let mut depth = 0;
+    for (index, letter) in text.char_indices().skip_while(|&(index, _)| index < start) {
+        match letter {
+            '{' => depth += 1,
+            '}' => depth -= 1,
+            _ => {}
+        }
+        if depth == 0 {
+            return start..index + 1;
+        }
+    }
+    panic!("the brace is closed");
+}
+
+/// The header's declarations: no comments, no lines of the preprocessor, and no functions that have a body.
+fn declarations() -> String {
+    let text = header();
+    let lines = text.lines().filter(|line| !line.trim_start().starts_with('#'));
+    let mut text = single_spaced(&lines.collect::<Vec<_>>().join("\n"));
+    while let Some(start) = text.find("static inline ") {
+        let end = start + block(&text[start..]).end;
+        text.replace_range(start..end, "");
+    }
+    text
 }
 
 /// A C type in Rust's words: `const int64_t *` is `*const i64`, `plg_sum_answer` is `SumAnswer`.
@@ -49,7 +88,7 @@ fn rust_field(c: &str) -> String {
 
 /// The structs and functions of the header, in Rust's words.
 fn of_header() -> BTreeSet<String> {
-    let text = plain(HEADER, "/*", "*/");
+    let text = declarations();
     let mut all = BTreeSet::new();
     for piece in text.split("typedef struct {").skip(1) {
         let (fields, rest) = piece.split_once('}').unwrap();
@@ -75,11 +114,13 @@ fn of_header() -> BTreeSet<String> {
 
 /// The same of boundary.rs, as they stand there.
 fn of_boundary() -> BTreeSet<String> {
-    let text = plain(BOUNDARY, "//", "\n").replace("pub ", "");
+    let text = single_spaced(&without(BOUNDARY, "//", "\n")).replace("pub ", "");
     let mut all = BTreeSet::new();
-    for piece in text.split("struct ").skip(1) {
+    let pieces: Vec<&str> = text.split("struct ").collect();
+    for (before, piece) in pieces.iter().zip(&pieces[1..]) {
         let body = &piece[..=piece.find('}').unwrap()];
-        assert!(text.contains(&format!("#[repr(C)] #[derive(Clone, Copy, Debug)] struct {body}")));
+        let derived = before.trim_end().rfind("#[derive(").expect("a struct is derived");
+        assert!(before[..derived].trim_end().ends_with("#[repr(C)]"), "laid out as C does: {body}");
         all.insert(format!("struct {}", body.replace(", }", " }")));
     }
     for piece in text.split("fn ").skip(1) {
@@ -88,10 +129,132 @@ fn of_boundary() -> BTreeSet<String> {
     all
 }
 
+/// The words of a text that begin so.
+fn words(text: &str, prefix: &str) -> BTreeSet<String> {
+    let words = text.split(|letter: char| !letter.is_alphanumeric() && letter != '_');
+    words.filter(|word| word.starts_with(prefix)).map(str::to_string).collect()
+}
+
 #[test]
 fn same_declarations() {
     let (header, boundary) = (of_header(), of_boundary());
     assert_eq!(header, boundary);
-    let functions = header.iter().filter(|line| line.starts_with("fn plg_")).count();
-    assert_eq!((functions, header.len() - functions), (22, 16));
+    // Every name that the header declares was found, and is a struct or a function.
+    let declared: BTreeSet<String> = header.iter().map(|line| line.split(['(', '{']).next().unwrap().trim().to_string()).collect();
+    let names = words(&declarations(), "plg_");
+    assert!(!names.is_empty());
+    assert_eq!(names.len(), declared.len());
+    for name in names {
+        let (function, kind) = (format!("fn {name}"), format!("struct {}", rust_type(&name)));
+        assert!(declared.contains(&function) || declared.contains(&kind), "{name}");
+    }
+}
+
+#[test]
+fn a_safe_function_for_each_entry() {
+    let sources = [
+        include_str!("../src/file.rs"),
+        include_str!("../src/meter.rs"),
+        include_str!("../src/plot.rs"),
+        include_str!("../src/records.rs"),
+        include_str!("../src/sums.rs"),
+    ];
+    let text = sources.concat();
+    let entries: Vec<String> = of_header().iter().filter_map(|line| Some(line.strip_prefix("fn plg_")?.split_once('(')?.0.to_string())).collect();
+    assert!(!entries.is_empty());
+    for entry in entries {
+        assert_eq!(text.matches(&format!("\npub fn {entry}(")).count(), 1, "{entry}");
+        assert_eq!(text.matches(&format!("boundary::plg_{entry}(")).count(), 1, "{entry}");
+    }
+}
+
+/// A C number: digits, a minus before them, or 1 shifted.
+fn number(c: &str) -> i128 {
+    let plain = c.replace("UINT64_C", "").replace("INT64_C", "").replace(['(', ')'], "");
+    match plain.split_once("<<") {
+        Some((one, shift)) => one.trim().parse::<i128>().unwrap() << shift.trim().parse::<u32>().unwrap(),
+        None => plain.trim().parse().unwrap_or_else(|_| panic!("a number: {c}")),
+    }
+}
+
+/// The header's macros that are numbers.
+fn macros() -> BTreeMap<String, i128> {
+    let text = header();
+    let defined = text.lines().filter_map(|line| line.trim().strip_prefix("#define PLG_")?.split_once(' '));
+    defined.filter(|(name, _)| !name.contains('(')).map(|(name, value)| (name.to_string(), number(value))).collect()
+}
+
+#[test]
+fn same_numbers() {
+    let version: Vec<i128> = env!("CARGO_PKG_VERSION").split('.').map(|part| part.parse().unwrap()).collect();
+    let own = [
+        ("VERSION_MAJOR", version[0]),
+        ("VERSION_MINOR", version[1]),
+        ("VERSION_PATCH", version[2]),
+        ("MOST_SAMPLES", ploegelster::MOST_SAMPLES as i128),
+        ("MOST_READINGS", ploegelster::MOST_READINGS as i128),
+        ("LARGEST_FACTOR", ploegelster::LARGEST_FACTOR.into()),
+        ("LARGEST_NOISE_FACTOR", ploegelster::LARGEST_NOISE_FACTOR.into()),
+        ("SAMPLE_END", ploegelster::SAMPLE_END.into()),
+        ("FREQUENCY_END", ploegelster::FREQUENCY_END.into()),
+        ("LARGEST_DEVIATION", ploegelster::LARGEST_DEVIATION.into()),
+        ("FEWEST_INTERVALS", ploegelster::FEWEST_INTERVALS.into()),
+        ("MOST_INTERVALS", ploegelster::MOST_INTERVALS.into()),
+        ("UNITS_A_PICOSECOND", ploegelster::UNITS_A_PICOSECOND.into()),
+        ("ANSWERED", 0),
+        ("TOO_FEW", Ground::TooFew.number().into()),
+        ("TOO_MANY", Ground::TooMany.number().into()),
+        ("OUT_OF_RANGE", Ground::OutOfRange.number().into()),
+        ("NOT_WHOLE", Ground::NotWhole.number().into()),
+        ("BAD_FACTOR", Ground::BadFactor.number().into()),
+        ("NO_ROOM", Ground::NoRoom.number().into()),
+        ("BAD_METER", Ground::BadMeter.number().into()),
+        ("NO_DEVIATION", Ground::NoDeviation.number().into()),
+        ("BAD_FILE", Ground::BadFile.number().into()),
+        // What the dots' own numbers mean is compared in plot.rs.
+        ("DOT_NOUGHT", 0),
+        ("DOT_DRAWN", 1),
+        ("DOT_TOO_FEW", 2),
+        ("WHITE_PHASE", Noise::WhitePhase.alpha().into()),
+        ("FLICKER_PHASE", Noise::FlickerPhase.alpha().into()),
+        ("WHITE_FREQUENCY", Noise::WhiteFrequency.alpha().into()),
+        ("FLICKER_FREQUENCY", Noise::FlickerFrequency.alpha().into()),
+        ("RANDOM_WALK_FREQUENCY", Noise::RandomWalkFrequency.alpha().into()),
+        ("KIND_PHASE", Kind::Phase.number().into()),
+        ("KIND_FREQUENCY", Kind::Frequency.number().into()),
+    ];
+    let own: BTreeMap<String, i128> = own.into_iter().map(|(name, value)| (name.to_string(), value)).collect();
+    assert_eq!(macros(), own);
+    // The macros that take a number are none of these, and there is one.
+    assert!(header().contains("#define PLG_FILE_LENGTH(count) (8 + 8 * (size_t)(count))\n"));
+    assert_eq!([0, 1, 32_768].map(ploegelster::file_length), [8, 16, 262_152]);
+}
+
+#[test]
+fn same_words() {
+    let text = header();
+    let function = &text[text.find("plg_refusal_text(").expect("the words")..];
+    let body = &function[block(function)];
+    let macros = macros();
+    let (mut numbers, mut others) = (BTreeSet::new(), 0);
+    for line in body.lines().filter(|line| line.contains("return")) {
+        let (case, words) = line.split_once(':').unwrap();
+        let words = words.split('"').nth(1).unwrap();
+        match case.trim().strip_prefix("case PLG_") {
+            Some(name) => {
+                let number = macros[name] as u64;
+                assert_eq!(refusal_text(number), words);
+                assert!(numbers.insert(number));
+            }
+            None => {
+                assert_eq!(case.trim(), "default");
+                for other in [10, 11, 255, 256, 1 << 32, u64::MAX] {
+                    assert_eq!(refusal_text(other), words);
+                }
+                others += 1;
+            }
+        }
+    }
+    assert_eq!(numbers, BTreeSet::from_iter(0..10));
+    assert_eq!(others, 1);
 }

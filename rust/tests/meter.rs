@@ -3,49 +3,49 @@
 #[allow(dead_code)]
 mod shared;
 
-use ploegelster::independent::meter::{self, Meter};
-use ploegelster::independent::sums::{allan_sum, modified_sum};
-use ploegelster::independent::Answer;
-use ploegelster::Wide;
+use independent::meter::{self, Meter};
+use independent::sums::{allan_sum, modified_sum};
+use independent::Answer;
 use shared::answers::{expected, expected_meter, Words};
-use shared::lent::Lent;
+use shared::lent::{Lent, Sides};
 use shared::random::Random;
 use shared::records::{factors, record, OUTSIDE};
-use shared::{with_neighbours, Tally, END};
-
-fn lent_meter(meter: &Meter) -> ploegelster::Meter {
-    ploegelster::Meter { m: meter.m, n: meter.n, a: Wide::from(meter.a), b: Wide::from(meter.b), window: meter.window }
-}
+use shared::{raw, with_neighbours, Tally, END};
 
 /// A start, compared: the ring stays as it was. Gives the meter that comes back, and whether the start was accepted.
 fn start_case(tally: &mut Tally, old: &Meter, m: u64, ring: &mut Lent<i64>) -> (Meter, bool) {
     let before = ring.clone();
     let own = meter::start(m, ring.part());
-    let answer = ploegelster::meter_start(lent_meter(old), m, ring.part());
-    let input = || format!("start, {old:?}, factor {m}, ring of {}", ring.clone().part().len());
-    tally.same_words(&answer.words(), &expected_meter(&own, old), input);
+    let raw = raw::meter_start(raw::meter(old), m, ring.part());
+    let wrapped = ploegelster::meter_start(raw::meter(old), m, ring.part());
+    let input = || format!("start, {old:?}, factor {m}, ring of {}", before.length());
+    tally.same_raw(&raw.words(), &expected_meter(&own, old), input);
+    tally.same_wrapped(&wrapped, &own, input);
     assert_eq!(ring.differs(&before), None, "ring changed by a start, {}", input());
     (own.unwrap_or(*old), own.is_ok())
 }
 
 /// A sample, compared: the ring has the sample in its slot, or is as it was. Gives the meter that comes back, and the second implementation's answer.
-fn sample_case(tally: &mut Tally, meter: &Meter, ring: &mut Lent<i64>, own_ring: &mut Lent<i64>, x: i64) -> (Meter, Answer<Meter>) {
-    let own = meter::sample(meter, own_ring.part(), x);
-    let answer = ploegelster::meter_sample(lent_meter(meter), ring.part(), x);
-    let input = || format!("sample, {meter:?}, sample {x}, ring of {}", ring.clone().part().len());
-    tally.same_words(&answer.words(), &expected_meter(&own, meter), input);
-    assert_eq!(ring.differs(own_ring), None, "first other entry of the ring, {}", input());
+fn sample_case(tally: &mut Tally, meter: &Meter, rings: &mut Sides<i64>, x: i64) -> (Meter, Answer<Meter>) {
+    let own = meter::sample(meter, rings.own.part(), x);
+    let raw = raw::meter_sample(raw::meter(meter), rings.raw.part(), x);
+    let wrapped = ploegelster::meter_sample(raw::meter(meter), rings.wrapped.part(), x);
+    let input = || format!("sample, {meter:?}, sample {x}, ring of {}", rings.length());
+    tally.same_raw(&raw.words(), &expected_meter(&own, meter), input);
+    tally.same_wrapped(&wrapped, &own, input);
+    rings.same(input);
     (own.unwrap_or(*meter), own)
 }
 
 fn report_case(tally: &mut Tally, meter: &Meter) {
-    tally.same(&ploegelster::meter_report(lent_meter(meter)), &meter::report(meter), || format!("report, {meter:?}"));
+    let lent = raw::meter(meter);
+    tally.same(&raw::meter_report(lent), &ploegelster::meter_report(lent), &meter::report(meter), || format!("report, {meter:?}"));
 }
 
-/// A meter in use: what it holds, its ring on both sides, and the samples accepted since the latest accepted start.
+/// A meter in use: what it holds, its ring on all sides, and the samples accepted since the latest accepted start.
 struct Sequence {
     meter: Meter,
-    rings: [Lent<i64>; 2],
+    rings: Sides<i64>,
     accepted: Vec<i64>,
     started: bool,
 }
@@ -53,7 +53,7 @@ struct Sequence {
 impl Sequence {
     fn new() -> Sequence {
         let meter = Meter { m: 0, n: 0, a: 0, b: 0, window: 0 };
-        Sequence { meter, rings: [Lent::painted(0), Lent::painted(0)], accepted: Vec::new(), started: false }
+        Sequence { meter, rings: Sides::painted(0), accepted: Vec::new(), started: false }
     }
 
     fn start(&mut self, tally: &mut Tally, m: u64, length: usize) {
@@ -61,19 +61,18 @@ impl Sequence {
         let (meter, accepted) = start_case(tally, &self.meter, m, &mut ring);
         self.meter = meter;
         if accepted {
-            self.rings = [ring.clone(), ring];
+            self.rings = Sides::of(ring);
             self.accepted.clear();
             self.started = true;
         }
     }
 
     fn sample(&mut self, tally: &mut Tally, x: i64) {
-        let [ring, own_ring] = &mut self.rings;
-        let before = ring.clone();
-        let (meter, own) = sample_case(tally, &self.meter, ring, own_ring, x);
+        let before = self.rings.own.clone();
+        let (meter, own) = sample_case(tally, &self.meter, &mut self.rings, x);
         match own {
             Ok(_) => self.accepted.push(x),
-            Err(_) => assert_eq!(ring.differs(&before), None, "ring changed by a refusal"),
+            Err(_) => assert_eq!(self.rings.own.differs(&before), None, "ring changed by a refusal"),
         }
         // Once started and until 32,768 are in, no sample in range is refused.
         let right = if !self.started {
@@ -92,17 +91,17 @@ impl Sequence {
     /// A sample lent a ring that is too short for the meter: 7.
     fn sample_with_short_ring(&mut self, tally: &mut Tally, x: i64) {
         let length = (3 * self.meter.m).saturating_sub(1) as usize;
-        let (mut ring, mut own_ring) = (Lent::painted(length), Lent::painted(length));
-        let (_, own) = sample_case(tally, &self.meter, &mut ring, &mut own_ring, x);
+        let mut rings = Sides::painted(length);
+        let (_, own) = sample_case(tally, &self.meter, &mut rings, x);
         assert_eq!(own.err().map(|refusal| refusal.number), Some(7));
-        assert!(ring.is_painted());
+        assert!(rings.own.is_painted());
     }
 
     /// A report, which is also the published sums of the accepted samples worked from scratch.
     fn report(&self, tally: &mut Tally) {
         report_case(tally, &self.meter);
         if self.started {
-            let words = ploegelster::meter_report(lent_meter(&self.meter)).words();
+            let words = raw::meter_report(raw::meter(&self.meter)).words();
             let m = self.meter.m;
             let part = |sum: &[u64]| if sum[0] == 0 { vec![0, sum[2], sum[3], sum[4]] } else { vec![sum[0], 0, 0, 0] };
             let (allan, modified) = (expected(&allan_sum(&self.accepted, m)), expected(&modified_sum(&self.accepted, m)));
@@ -263,11 +262,11 @@ fn meters_made_by_hand() {
         let mut meter = hand_made(&mut random);
         report_case(&mut tally, &meter);
         let mut ring = hand_made_ring(&mut random, &meter);
-        let mut own_ring = ring.clone();
         let m = if random.one_in(4) { near(&mut random, &[0, 10_922]) } else { random.below(9) };
         start_case(&mut tally, &meter, m, &mut ring);
+        let mut rings = Sides::of(ring);
         for _ in 0..random.below(6) {
-            let (next, own) = sample_case(&mut tally, &meter, &mut ring, &mut own_ring, hand_made_sample(&mut random));
+            let (next, own) = sample_case(&mut tally, &meter, &mut rings, hand_made_sample(&mut random));
             report_case(&mut tally, &next);
             // An accepted sample may leave a meter that no longer holds together.
             broken += (own.is_ok() && meter::report(&next).is_err()) as u64;
@@ -285,8 +284,7 @@ fn every_field_at_every_limit() {
     for m in factors() {
         let due = m.clamp(1, 10_922);
         let end = (due as i64) << 42;
-        let mut ring = Lent::holding(&vec![1; 3 * due as usize]);
-        let mut own_ring = ring.clone();
+        let mut rings = Sides::of(Lent::holding(&vec![1; 3 * due as usize]));
         for n in with_neighbours(&[0, due, 2 * due, 3 * due, 32_768, 1 << 32, 1 << 63]) {
             let sound = Meter { m, n, a: 5, b: 7, window: 0 };
             let windows = [0, end - 1, end, end + 1, 1 - end, -end, -end - 1, i64::MIN, i64::MAX].map(|window| Meter { window, ..sound });
@@ -294,7 +292,7 @@ fn every_field_at_every_limit() {
             let meters = sums.flat_map(|sum| [Meter { a: sum, ..sound }, Meter { b: sum, ..sound }]).chain(windows);
             for meter in meters {
                 report_case(&mut tally, &meter);
-                let _ = sample_case(&mut tally, &meter, &mut ring, &mut own_ring, 2);
+                let _ = sample_case(&mut tally, &meter, &mut rings, 2);
             }
         }
     }
@@ -313,8 +311,7 @@ fn slots_that_are_read_and_slots_that_are_not() {
                         let meter = Meter { m, n, a: 11, b: 13, window: 17 };
                         let mut ring = Lent::holding(&vec![1; 3 * m as usize + 2]);
                         ring.part()[bad] = value;
-                        let mut own_ring = ring.clone();
-                        let _ = sample_case(&mut tally, &meter, &mut ring, &mut own_ring, x);
+                        let _ = sample_case(&mut tally, &meter, &mut Sides::of(ring), x);
                     }
                 }
             }
@@ -334,8 +331,7 @@ fn rings_at_every_limit() {
             for old in [Meter { m: 0, n: 0, a: 0, b: 0, window: 0 }, Meter { m: 3, n: 20, a: 5, b: 6, window: -7 }, odd] {
                 start_case(&mut tally, &old, m, &mut ring);
             }
-            let mut own_ring = ring.clone();
-            let _ = sample_case(&mut tally, &Meter { m, n: 1, a: 0, b: 0, window: 0 }, &mut ring, &mut own_ring, 2);
+            let _ = sample_case(&mut tally, &Meter { m, n: 1, a: 0, b: 0, window: 0 }, &mut Sides::of(ring), 2);
         }
     }
     tally.ran(792, &[0, 5, 6, 7]);

@@ -1,20 +1,20 @@
-//! The crate `plot` over the C boundary: drawn numbers, dots, noise types and bars.
+//! The crates `plot` and `noise` over the C boundary: drawn numbers, dots, noise types and bars.
 
 #[allow(dead_code)]
 mod shared;
 
-use ploegelster::independent::noise::{self, Noise};
-use ploegelster::independent::{drawn, Refusal};
-use ploegelster::Wide;
+use independent::noise::{self, Noise};
+use independent::{drawn, Refusal};
+use shared::answers::{expected, Words};
 use shared::lent::Lent;
 use shared::random::Random;
 use shared::records::{factors, lengths, maybe_damaged, record};
-use shared::{shown, with_neighbours, Tally};
+use shared::{raw, shown, with_neighbours, Tally};
 
 const TOP: u64 = 1 << 62;
 
 fn drawn_case(tally: &mut Tally, r: u64) {
-    tally.same(&ploegelster::drawn_number(r), &drawn::drawn_number(r), || format!("drawn number, r {r}"));
+    tally.same(&raw::drawn_number(r), &ploegelster::drawn_number(r), &drawn::drawn_number(r), || format!("drawn number, r {r}"));
 }
 
 #[test]
@@ -46,9 +46,9 @@ fn drawn_of_generated_numbers() {
 /// The dots of one sum, factor and count: two cases. Gives their kinds.
 fn dot_case(tally: &mut Tally, sum: u128, m: u64, count: u64) -> [u64; 2] {
     let input = |entry: &str| format!("{entry}, sum {sum}, factor {m}, count {count}");
-    let dots = [ploegelster::allan_dot(Wide::from(sum), m, count), ploegelster::time_dot(Wide::from(sum), m, count)];
-    tally.same(&dots[0], &drawn::allan_dot(sum, m, count), || input("Allan dot"));
-    tally.same(&dots[1], &drawn::time_dot(sum, m, count), || input("time dot"));
+    let dots = [raw::allan_dot(sum, m, count), raw::time_dot(sum, m, count)];
+    tally.same(&dots[0], &ploegelster::allan_dot(sum, m, count), &drawn::allan_dot(sum, m, count), || input("Allan dot"));
+    tally.same(&dots[1], &ploegelster::time_dot(sum, m, count), &drawn::time_dot(sum, m, count), || input("time dot"));
     dots.map(|dot| dot.kind)
 }
 
@@ -94,9 +94,9 @@ fn dots_of_generated_sums() {
 }
 
 fn type_case(tally: &mut Tally, r1: u64, r2: u64) -> i64 {
-    let answer = ploegelster::noise_type(r1, r2);
-    tally.same(&answer, &noise::noise_type(r1, r2), || format!("noise type, r1 {r1}, r2 {r2}"));
-    answer.alpha
+    let raw = raw::noise_type(r1, r2);
+    tally.same(&raw, &ploegelster::noise_type(r1, r2), &noise::noise_type(r1, r2), || format!("noise type, r1 {r1}, r2 {r2}"));
+    raw.alpha
 }
 
 #[test]
@@ -128,12 +128,14 @@ fn types_at_every_bound() {
     tally.ran(60_000, &[0, 3]);
 }
 
-fn record_case(tally: &mut Tally, samples: &[i64], m: u64) -> ploegelster::NoiseAnswer {
+/// The noise type of one record. Gives its alpha, where there is one.
+fn record_case(tally: &mut Tally, samples: &[i64], m: u64) -> Option<i64> {
+    let input = || format!("noise of a record, factor {m}, samples {}", shown(samples));
     let mut lent = Lent::holding(samples);
-    let answer = ploegelster::noise_of_record(lent.part(), m);
-    tally.same(&answer, &noise::noise_of_record(samples, m), || format!("noise of a record, factor {m}, samples {}", shown(samples)));
-    assert!(lent.holds(samples), "samples changed, factor {m}, samples {}", shown(samples));
-    answer
+    let raw = raw::noise_of_record(lent.part(), m);
+    tally.same(&raw, &ploegelster::noise_of_record(lent.part(), m), &noise::noise_of_record(samples, m), input);
+    assert!(lent.holds(samples), "samples changed, {}", input());
+    (raw.number == 0).then_some(raw.alpha)
 }
 
 #[test]
@@ -159,9 +161,8 @@ fn noise_of_generated_records() {
         let m = if long { random.factor(5_461) } else { random.below(9) };
         let length = if long { random.between(6 * m as i64 - 1, 32_768) } else { random.between(0, 80) } as usize;
         let samples = maybe_damaged(&mut random, length, 10);
-        let answer = record_case(&mut tally, &samples, m);
-        if answer.number == 0 {
-            seen[(answer.alpha + 2) as usize] += 1;
+        if let Some(alpha) = record_case(&mut tally, &samples, m) {
+            seen[(alpha + 2) as usize] += 1;
         }
     }
     assert!(seen.iter().all(|&times| times > 100), "{seen:?}");
@@ -169,9 +170,13 @@ fn noise_of_generated_records() {
 }
 
 fn bars_case(tally: &mut Tally, r: u64, alpha: i64, intervals: u64) {
-    // No other number than the five is a type: 3 at place 0, before all else.
+    let input = || format!("bars, r {r}, alpha {alpha}, M {intervals}");
+    // No other number than the five is a type: 3 at place 0, before all else. The wrapper takes no other.
     let own = Noise::of_alpha(alpha).ok_or(Refusal { number: 3, place: 0 }).and_then(|noise| noise::bars(r, noise, intervals));
-    tally.same(&ploegelster::bars(r, alpha, intervals), &own, || format!("bars, r {r}, alpha {alpha}, M {intervals}"));
+    tally.same_raw(&raw::bars(r, alpha, intervals).words(), &expected(&own), input);
+    if let Some(noise) = ploegelster::Noise::from_alpha(alpha) {
+        tally.same_wrapped(&ploegelster::bars(r, noise, intervals), &own, input);
+    }
 }
 
 #[test]
@@ -185,7 +190,7 @@ fn bars_at_every_limit() {
             }
         }
     }
-    tally.ran(6_210, &[0, 1, 2, 3, 8]);
+    tally.ran_apart(6_210, 2_070, &[0, 1, 2, 3, 8]);
 }
 
 #[test]

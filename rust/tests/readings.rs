@@ -3,22 +3,22 @@
 #[allow(dead_code)]
 mod shared;
 
-use ploegelster::independent::floats;
-use shared::lent::Lent;
+use independent::floats;
+use shared::lent::{Lent, Sides};
 use shared::random::Random;
 use shared::records::{factors, lengths, record, rooms};
-use shared::{shown, Tally, END};
+use shared::{raw, shown, Tally, END};
 
 fn case(tally: &mut Tally, readings: &[f64], m: u64, room: usize) {
     let input = || {
         let bits: Vec<u64> = readings.iter().map(|reading| reading.to_bits()).collect();
         format!("factor {m}, buffer of {room}, readings {}, bits {}", shown(readings), shown(&bits))
     };
-    let (mut lent, mut buffer, mut own_buffer) = (Lent::holding(readings), Lent::painted(room), Lent::painted(room));
-    let own = floats::float_sums(readings, m, own_buffer.part());
-    tally.same(&ploegelster::float_sums(lent.part(), m, buffer.part()), &own, input);
-    assert_eq!(buffer.differs(&own_buffer), None, "first other entry of the buffer, {}", input());
-    assert!(own.is_ok() || buffer.is_painted(), "buffer changed by a refusal, {}", input());
+    let (mut lent, mut buffers) = (Lent::holding(readings), Sides::painted(room));
+    let own = floats::float_sums(readings, m, buffers.own.part());
+    let raw = raw::float_sums(lent.part(), m, buffers.raw.part());
+    tally.same(&raw, &ploegelster::float_sums(lent.part(), m, buffers.wrapped.part()), &own, input);
+    buffers.same_painted(own.is_err(), input);
     assert!(lent.holds(readings), "readings changed, {}", input());
 }
 

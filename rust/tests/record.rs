@@ -1,48 +1,67 @@
-//! The crate `record` over the C boundary: phase, frequency and drift.
+//! The crates `frequency` and `drift` over the C boundary.
 
 #[allow(dead_code)]
 mod shared;
 
-use ploegelster::independent::{drift, frequency, Answer};
-use ploegelster::CountAnswer;
-use shared::lent::Lent;
+use independent::{drift, frequency, Answer};
+use ploegelster::boundary::CountAnswer;
+use ploegelster::{Ground, Refusal};
+use shared::lent::{Lent, Sides};
 use shared::random::Random;
 use shared::records::{damage, maybe_damaged, record, rooms, OUTSIDE};
-use shared::{shown, Tally, END};
+use shared::{raw, shown, Tally, END};
 
-/// One case of an entry that reads values and writes to a buffer of this length.
-fn case(
-    tally: &mut Tally,
-    entry: &str,
-    library: fn(&[i64], &mut [i64]) -> CountAnswer,
+/// An entry that reads values and writes to a buffer, on all sides.
+struct Entry {
+    name: &'static str,
+    raw: fn(&[i64], &mut [i64]) -> CountAnswer,
+    wrapped: fn(&[i64], &mut [i64]) -> Result<usize, Refusal>,
     own: fn(&[i64], &mut [i64]) -> Answer<u64>,
-    values: &[i64],
-    room: usize,
-) {
-    let input = || format!("{entry}, buffer of {room}, values {}", shown(values));
-    let (mut lent, mut buffer, mut own_buffer) = (Lent::holding(values), Lent::painted(room), Lent::painted(room));
-    let own_answer = own(values, own_buffer.part());
-    tally.same(&library(lent.part(), buffer.part()), &own_answer, input);
-    assert_eq!(buffer.differs(&own_buffer), None, "first other entry of the buffer, {}", input());
-    assert!(own_answer.is_ok() || buffer.is_painted(), "buffer changed by a refusal, {}", input());
+}
+
+const PHASE: Entry = Entry {
+    name: "phase from frequency",
+    raw: raw::phase_from_frequency,
+    wrapped: ploegelster::phase_from_frequency,
+    own: frequency::phase_from_frequency,
+};
+
+const FREQUENCY: Entry = Entry {
+    name: "frequency from phase",
+    raw: raw::frequency_from_phase,
+    wrapped: ploegelster::frequency_from_phase,
+    own: frequency::frequency_from_phase,
+};
+
+const REMOVAL: Entry = Entry { name: "drift removal", raw: raw::remove_drift, wrapped: ploegelster::remove_drift, own: drift::remove_drift };
+
+/// One case of an entry, with a buffer of this length.
+fn case(tally: &mut Tally, entry: &Entry, values: &[i64], room: usize) {
+    let input = || format!("{}, buffer of {room}, values {}", entry.name, shown(values));
+    let (mut lent, mut buffers) = (Lent::holding(values), Sides::painted(room));
+    let own = (entry.own)(values, buffers.own.part());
+    let raw = (entry.raw)(lent.part(), buffers.raw.part());
+    tally.same(&raw, &(entry.wrapped)(lent.part(), buffers.wrapped.part()), &own, input);
+    buffers.same_painted(own.is_err(), input);
     assert!(lent.holds(values), "values changed, {}", input());
 }
 
 fn phase_case(tally: &mut Tally, readings: &[i64], room: usize) {
-    case(tally, "phase from frequency", ploegelster::phase_from_frequency, frequency::phase_from_frequency, readings, room);
+    case(tally, &PHASE, readings, room);
 }
 
 fn frequency_case(tally: &mut Tally, samples: &[i64], room: usize) {
-    case(tally, "frequency from phase", ploegelster::frequency_from_phase, frequency::frequency_from_phase, samples, room);
+    case(tally, &FREQUENCY, samples, room);
 }
 
 fn removal_case(tally: &mut Tally, samples: &[i64], room: usize) {
-    case(tally, "drift removal", ploegelster::remove_drift, drift::remove_drift, samples, room);
+    case(tally, &REMOVAL, samples, room);
 }
 
 fn figure_case(tally: &mut Tally, samples: &[i64]) {
     let mut lent = Lent::holding(samples);
-    tally.same(&ploegelster::drift_figure(lent.part()), &drift::drift_figure(samples), || format!("drift figure, samples {}", shown(samples)));
+    let (raw, wrapped) = (raw::drift_figure(lent.part()), ploegelster::drift_figure(lent.part()));
+    tally.same(&raw, &wrapped, &drift::drift_figure(samples), || format!("drift figure, samples {}", shown(samples)));
     assert!(lent.holds(samples), "samples changed, {}", shown(samples));
 }
 
@@ -213,13 +232,13 @@ fn phase_to_frequency_to_phase() {
         let length = random.between(1, 50) as usize;
         let samples = record(&mut random, length);
         let (mut steps, mut phases) = (vec![0; length - 1], vec![0; length]);
-        assert_eq!(ploegelster::frequency_from_phase(&samples, &mut steps).number, 0);
+        assert_eq!(ploegelster::frequency_from_phase(&samples, &mut steps), Ok(length - 1));
         let answer = ploegelster::phase_from_frequency(&steps, &mut phases);
         let shifted: Vec<i64> = samples.iter().map(|x| x - samples[0]).collect();
         match shifted.iter().position(|x| x.abs() > END) {
-            None => assert_eq!((answer.number, answer.count, &phases), (0, length as u64, &shifted)),
+            None => assert_eq!((answer, &phases), (Ok(length), &shifted)),
             Some(index) => {
-                assert_eq!((answer.number, answer.place, answer.count), (3, index as u64 - 1, 0));
+                assert_eq!(answer, Err(Refusal { ground: Ground::OutOfRange, place: index as u64 - 1 }));
                 refusals += 1;
             }
         }

@@ -1,22 +1,23 @@
-//! The crate `sums` over the C boundary: sums, fractions and deviations.
+//! The crates `sums` and `variances` over the C boundary: sums, fractions and deviations.
 
 #[allow(dead_code)]
 mod shared;
 
-use ploegelster::independent::{fractions, sums};
-use ploegelster::Wide;
+use independent::{fractions, sums};
 use shared::lent::Lent;
 use shared::random::Random;
 use shared::records::{factors, lengths, maybe_damaged, record, OUTSIDE};
-use shared::{shown, with_neighbours, Tally, END};
+use shared::{raw, shown, with_neighbours, Tally, END};
 
 /// Both sums of one record: two cases.
 fn sums_case(tally: &mut Tally, samples: &[i64], m: u64) {
     let mut lent = Lent::holding(samples);
-    let input = || format!("factor {m}, samples {}", shown(samples));
-    tally.same(&ploegelster::allan_sum(lent.part(), m), &sums::allan_sum(samples, m), || format!("Allan sum, {}", input()));
-    tally.same(&ploegelster::modified_sum(lent.part(), m), &sums::modified_sum(samples, m), || format!("modified sum, {}", input()));
-    assert!(lent.holds(samples), "samples changed, {}", input());
+    let input = |entry: &str| format!("{entry}, factor {m}, samples {}", shown(samples));
+    let own = sums::allan_sum(samples, m);
+    tally.same(&raw::allan_sum(lent.part(), m), &ploegelster::allan_sum(lent.part(), m), &own, || input("Allan sum"));
+    let own = sums::modified_sum(samples, m);
+    tally.same(&raw::modified_sum(lent.part(), m), &ploegelster::modified_sum(lent.part(), m), &own, || input("modified sum"));
+    assert!(lent.holds(samples), "{}", input("samples changed"));
 }
 
 #[test]
@@ -103,12 +104,15 @@ fn sums_of_the_widest_records() {
 
 /// Fractions and deviations of one sum, factor and count: four cases.
 fn fractions_case(tally: &mut Tally, sum: u128, m: u64, count: u64) {
-    let wide = Wide::from(sum);
     let input = |entry: &str| format!("{entry}, sum {sum}, factor {m}, count {count}");
-    tally.same(&ploegelster::allan_fraction(wide, m, count), &fractions::allan_fraction(sum, m, count), || input("Allan fraction"));
-    tally.same(&ploegelster::time_fraction(wide, m, count), &fractions::time_fraction(sum, m, count), || input("time fraction"));
-    tally.same(&ploegelster::allan_deviation(wide, m, count), &fractions::allan_deviation(sum, m, count), || input("Allan deviation"));
-    tally.same(&ploegelster::time_deviation(wide, m, count), &fractions::time_deviation(sum, m, count), || input("time deviation"));
+    let own = fractions::allan_fraction(sum, m, count);
+    tally.same(&raw::allan_fraction(sum, m, count), &ploegelster::allan_fraction(sum, m, count), &own, || input("Allan fraction"));
+    let own = fractions::time_fraction(sum, m, count);
+    tally.same(&raw::time_fraction(sum, m, count), &ploegelster::time_fraction(sum, m, count), &own, || input("time fraction"));
+    let own = fractions::allan_deviation(sum, m, count);
+    tally.same(&raw::allan_deviation(sum, m, count), &ploegelster::allan_deviation(sum, m, count), &own, || input("Allan deviation"));
+    let own = fractions::time_deviation(sum, m, count);
+    tally.same(&raw::time_deviation(sum, m, count), &ploegelster::time_deviation(sum, m, count), &own, || input("time deviation"));
 }
 
 /// Sums with both neighbours: where a half or a limit begins, and the ends of all.
@@ -149,7 +153,7 @@ fn least_sum(r: u64, denominator: u128) -> Option<u128> {
     let (high, low) = fractions::product(r as u128 * r as u128, denominator);
     let (low, carry) = low.overflowing_add((1 << 40) - 1);
     let high = high + carry as u128;
-    (high >> 40 == 0).then(|| high << 88 | low >> 40)
+    (high >> 40 == 0).then_some(high << 88 | low >> 40)
 }
 
 #[test]

@@ -2,7 +2,8 @@
 
 mod straightforward;
 
-use ploegelster::independent::file::{file_of, Kind};
+use independent::file::{file_of, Kind};
+use ploegelster::{boundary, Meter};
 use std::hint::black_box;
 use std::time::Instant;
 
@@ -48,27 +49,32 @@ fn compare<T, U>(work: &str, m: u64, mut library: impl FnMut() -> T, mut plain: 
     println!("| {work} | {factor} | {ours:.2} | {theirs:.2} | {:.2} |", ours / theirs);
 }
 
-fn wide(high: u64, low: u64) -> u128 {
-    (high as u128) << 64 | low as u128
-}
-
 fn sums(samples: &[i64], m: u64) {
-    let (ours, theirs) = (ploegelster::allan_sum(samples, m), straightforward::allan_sum(samples, m));
-    assert_eq!(Ok((wide(ours.high, ours.low), ours.count)), theirs);
+    let ours = ploegelster::allan_sum(samples, m).expect("the record is sound");
+    assert_eq!(Ok((ours.total, ours.count)), straightforward::allan_sum(samples, m));
     compare("Allan sum", m, || ploegelster::allan_sum(black_box(samples), m), || straightforward::allan_sum(black_box(samples), m));
 
-    let (ours, theirs) = (ploegelster::modified_sum(samples, m), straightforward::modified_sum(samples, m));
-    assert_eq!(Ok((wide(ours.high, ours.low), ours.count)), theirs);
+    let ours = ploegelster::modified_sum(samples, m).expect("the record is sound");
+    assert_eq!(Ok((ours.total, ours.count)), straightforward::modified_sum(samples, m));
     compare("modified sum", m, || ploegelster::modified_sum(black_box(samples), m), || straightforward::modified_sum(black_box(samples), m));
 }
 
-/// A whole stream through the library's meter.
-fn library_stream(samples: &[i64], m: u64, ring: &mut [i64]) -> ploegelster::Meter {
-    let mut meter = ploegelster::meter_start(ploegelster::Meter::NOUGHTS, m, ring).meter;
+/// A whole stream through the library's meter, over the plain C interface.
+fn library_stream(samples: &[i64], m: u64, ring: &mut [i64]) -> Meter {
+    let mut meter = ploegelster::meter_start(Meter::NOUGHTS, m, ring).expect("the factor and the ring are good");
     for &x in samples {
-        let answer = ploegelster::meter_sample(meter, ring, x);
+        let answer = unsafe { boundary::plg_meter_sample(meter, ring.as_mut_ptr(), ring.len(), x) };
         assert_eq!(answer.number, 0);
         meter = answer.meter;
+    }
+    meter
+}
+
+/// The same through the wrapper, which copies each meter once more.
+fn wrapped_stream(samples: &[i64], m: u64, ring: &mut [i64]) -> Meter {
+    let mut meter = ploegelster::meter_start(Meter::NOUGHTS, m, ring).expect("the factor and the ring are good");
+    for &x in samples {
+        meter = ploegelster::meter_sample(meter, ring, x).expect("a sample in range is taken");
     }
     meter
 }
@@ -81,20 +87,20 @@ fn plain_stream(samples: &[i64], m: u64, ring: &mut [i64]) -> straightforward::M
     meter
 }
 
-fn meter(samples: &[i64], m: u64) {
+fn meter(samples: &[i64], m: u64, work: &str, stream: fn(&[i64], u64, &mut [i64]) -> Meter) {
     let (mut ring, mut plain_ring) = (vec![0; 3 * m as usize], vec![0; 3 * m as usize]);
-    let (ours, theirs) = (library_stream(samples, m, &mut ring), plain_stream(samples, m, &mut plain_ring));
-    assert_eq!((wide(ours.a.high, ours.a.low), wide(ours.b.high, ours.b.low), ours.window), (theirs.a, theirs.b, theirs.window));
+    let (ours, theirs) = (stream(samples, m, &mut ring), plain_stream(samples, m, &mut plain_ring));
+    assert_eq!((u128::from(ours.a), u128::from(ours.b), ours.window), (theirs.a, theirs.b, theirs.window));
     assert_eq!(ring, plain_ring);
-    let library = || library_stream(black_box(samples), m, &mut ring);
-    compare("meter, a sample", m, library, || plain_stream(black_box(samples), m, &mut plain_ring));
+    let library = || stream(black_box(samples), m, &mut ring);
+    compare(work, m, library, || plain_stream(black_box(samples), m, &mut plain_ring));
 }
 
 fn file(samples: &[i64]) {
     let bytes = file_of(Kind::Phase, samples);
     let (mut buffer, mut plain_buffer) = (vec![0; LENGTH], vec![0; LENGTH]);
-    let (ours, theirs) = (ploegelster::read_file(&bytes, &mut buffer), straightforward::read_file(&bytes, &mut plain_buffer));
-    assert_eq!(Ok((ours.kind, ours.count)), theirs);
+    let ours = ploegelster::read_file(&bytes, &mut buffer).expect("the file is sound");
+    assert_eq!(Ok((ours.kind.number(), ours.count as u64)), straightforward::read_file(&bytes, &mut plain_buffer));
     assert_eq!(buffer, plain_buffer);
     let library = || ploegelster::read_file(black_box(&bytes), &mut buffer);
     compare("file read", 0, library, || straightforward::read_file(black_box(&bytes), &mut plain_buffer));
@@ -109,7 +115,10 @@ fn main() {
         sums(&samples, m);
     }
     for m in [1, 100, 5_000] {
-        meter(&samples, m);
+        meter(&samples, m, "meter, a sample", library_stream);
+    }
+    for m in [1, 100, 5_000] {
+        meter(&samples, m, "meter, a sample, by the wrapper", wrapped_stream);
     }
     file(&samples);
 }

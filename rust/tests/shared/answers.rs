@@ -1,95 +1,96 @@
-//! Answers of both sides laid out as words: number, place, then every value in the header's order. Doubles are their bits.
+//! Answers of all sides laid out as words: number, place, then every value in the header's order. Doubles are their bits.
 
-use ploegelster::independent::drawn::Dot;
-use ploegelster::independent::drift::Drift;
-use ploegelster::independent::file::Read;
-use ploegelster::independent::floats::Sums;
-use ploegelster::independent::fractions::Fraction;
-use ploegelster::independent::meter::Meter;
-use ploegelster::independent::noise::{Bars, Noise};
-use ploegelster::independent::sums::Sum;
-use ploegelster::independent::Answer;
+use independent::drawn::Dot;
+use independent::drift::Drift;
+use independent::file::Read;
+use independent::floats::Sums;
+use independent::fractions::Fraction;
+use independent::meter::Meter;
+use independent::noise::{Bars, Noise};
+use independent::sums::Sum;
+use independent::Answer;
+use ploegelster::boundary;
 
-/// An answer of the library.
+/// An answer over the plain C interface.
 pub trait Words {
     fn words(&self) -> Vec<u64>;
 }
 
-impl Words for ploegelster::CountAnswer {
+impl Words for boundary::CountAnswer {
     fn words(&self) -> Vec<u64> {
         vec![self.number, self.place, self.count]
     }
 }
 
-impl Words for ploegelster::SumAnswer {
+impl Words for boundary::SumAnswer {
     fn words(&self) -> Vec<u64> {
-        vec![self.number, self.place, self.high, self.low, self.count]
+        vec![self.number, self.place, self.sum.high, self.sum.low, self.count]
     }
 }
 
-impl Words for ploegelster::SumsAnswer {
+impl Words for boundary::SumsAnswer {
     fn words(&self) -> Vec<u64> {
         let (a, b) = (&self.allan, &self.modified);
-        vec![self.number, self.place, a.number, a.high, a.low, a.count, b.number, b.high, b.low, b.count]
+        vec![self.number, self.place, a.number, a.sum.high, a.sum.low, a.count, b.number, b.sum.high, b.sum.low, b.count]
     }
 }
 
-impl Words for ploegelster::FractionAnswer {
+impl Words for boundary::FractionAnswer {
     fn words(&self) -> Vec<u64> {
-        vec![self.number, self.place, self.high, self.low, self.denominator]
+        vec![self.number, self.place, self.numerator.high, self.numerator.low, self.denominator]
     }
 }
 
-impl Words for ploegelster::DeviationAnswer {
+impl Words for boundary::DeviationAnswer {
     fn words(&self) -> Vec<u64> {
         vec![self.number, self.place, self.deviation]
     }
 }
 
-impl Words for ploegelster::DriftAnswer {
+impl Words for boundary::DriftAnswer {
     fn words(&self) -> Vec<u64> {
         vec![self.number, self.place, self.p as u64, self.r]
     }
 }
 
-impl Words for ploegelster::DrawnAnswer {
+impl Words for boundary::DrawnAnswer {
     fn words(&self) -> Vec<u64> {
         vec![self.number, self.place, self.value.to_bits()]
     }
 }
 
-impl Words for ploegelster::DotAnswer {
+impl Words for boundary::DotAnswer {
     fn words(&self) -> Vec<u64> {
         vec![self.number, self.place, self.kind, self.value.to_bits()]
     }
 }
 
-impl Words for ploegelster::NoiseAnswer {
+impl Words for boundary::NoiseAnswer {
     fn words(&self) -> Vec<u64> {
         vec![self.number, self.place, self.alpha as u64]
     }
 }
 
-impl Words for ploegelster::BarsAnswer {
+impl Words for boundary::BarsAnswer {
     fn words(&self) -> Vec<u64> {
         vec![self.number, self.place, self.bar.low.to_bits(), self.bar.mid.to_bits(), self.bar.high.to_bits(), self.touches as u64]
     }
 }
 
-impl Words for ploegelster::MeterAnswer {
+impl Words for boundary::MeterAnswer {
     fn words(&self) -> Vec<u64> {
         let meter = &self.meter;
         vec![self.number, self.place, meter.m, meter.n, meter.a.high, meter.a.low, meter.b.high, meter.b.low, meter.window as u64]
     }
 }
 
-impl Words for ploegelster::ReadAnswer {
+impl Words for boundary::ReadAnswer {
     fn words(&self) -> Vec<u64> {
         vec![self.number, self.place, self.kind, self.count]
     }
 }
 
-/// What the second implementation answers, in as many words as the library's answer has beside number and place.
+/// What the second implementation answers, or the wrapper, in as many words as the library's answer has beside number and place.
 pub trait Values {
     const LENGTH: usize;
     fn values(&self) -> Vec<u64>;
@@ -191,15 +192,103 @@ impl Values for Read {
     }
 }
 
-/// Number, place and values, with noughts beside a refusal.
-pub fn expected<T: Values>(answer: &Answer<T>) -> Vec<u64> {
-    match answer {
-        Ok(values) => [vec![0, 0], values.values()].concat(),
-        Err(refusal) => [vec![refusal.number, refusal.place], vec![0; T::LENGTH]].concat(),
+/// How many entries the wrapper says were written.
+impl Values for usize {
+    const LENGTH: usize = 1;
+    fn values(&self) -> Vec<u64> {
+        vec![*self as u64]
     }
 }
 
-/// The same for a meter, which a refusal hands back as it came.
+impl Values for ploegelster::Sum {
+    const LENGTH: usize = 3;
+    fn values(&self) -> Vec<u64> {
+        vec![high(self.total), low(self.total), self.count]
+    }
+}
+
+impl Values for ploegelster::Sums {
+    const LENGTH: usize = 8;
+    fn values(&self) -> Vec<u64> {
+        let part = |part: &Option<ploegelster::Sum>| match part {
+            Some(sum) => [0, high(sum.total), low(sum.total), sum.count],
+            None => [1, 0, 0, 0],
+        };
+        [part(&self.allan), part(&self.modified)].concat()
+    }
+}
+
+impl Values for ploegelster::Fraction {
+    const LENGTH: usize = 3;
+    fn values(&self) -> Vec<u64> {
+        vec![high(self.numerator), low(self.numerator), self.denominator]
+    }
+}
+
+impl Values for ploegelster::Drift {
+    const LENGTH: usize = 2;
+    fn values(&self) -> Vec<u64> {
+        vec![self.p as u64, self.r]
+    }
+}
+
+impl Values for ploegelster::Dot {
+    const LENGTH: usize = 2;
+    fn values(&self) -> Vec<u64> {
+        match self {
+            ploegelster::Dot::Nought => vec![0, 0],
+            ploegelster::Dot::Drawn(value) => vec![1, value.to_bits()],
+            ploegelster::Dot::TooFew => vec![2, 0],
+        }
+    }
+}
+
+impl Values for ploegelster::Noise {
+    const LENGTH: usize = 1;
+    fn values(&self) -> Vec<u64> {
+        vec![self.alpha() as u64]
+    }
+}
+
+impl Values for ploegelster::Bars {
+    const LENGTH: usize = 4;
+    fn values(&self) -> Vec<u64> {
+        vec![self.low.to_bits(), self.mid.to_bits(), self.high.to_bits(), self.touches as u64]
+    }
+}
+
+impl Values for ploegelster::Meter {
+    const LENGTH: usize = 7;
+    fn values(&self) -> Vec<u64> {
+        vec![self.m, self.n, self.a.high, self.a.low, self.b.high, self.b.low, self.window as u64]
+    }
+}
+
+impl Values for ploegelster::Contents {
+    const LENGTH: usize = 2;
+    fn values(&self) -> Vec<u64> {
+        vec![self.kind.number(), self.count as u64]
+    }
+}
+
+fn laid_out<T: Values>(answer: Result<&T, [u64; 2]>) -> Vec<u64> {
+    match answer {
+        Ok(values) => [vec![0, 0], values.values()].concat(),
+        Err(refusal) => [refusal.to_vec(), vec![0; T::LENGTH]].concat(),
+    }
+}
+
+/// Number, place and values of the second implementation, with noughts beside a refusal.
+pub fn expected<T: Values>(answer: &Answer<T>) -> Vec<u64> {
+    laid_out(answer.as_ref().map_err(|refusal| [refusal.number, refusal.place]))
+}
+
+/// The same of the wrapper.
+pub fn wrapped<T: Values>(answer: &Result<T, ploegelster::Refusal>) -> Vec<u64> {
+    laid_out(answer.as_ref().map_err(|refusal| [refusal.number(), refusal.place]))
+}
+
+/// The same of a meter over the plain C interface, where a refusal hands it back as it came.
 pub fn expected_meter(answer: &Answer<Meter>, old: &Meter) -> Vec<u64> {
     match answer {
         Ok(meter) => [vec![0, 0], meter.values()].concat(),

@@ -58,6 +58,11 @@ impl<T: Entry> Lent<T> {
         Lent { memory: memory.collect(), length: entries.len() }
     }
 
+    /// How many entries are lent.
+    pub fn length(&self) -> usize {
+        self.length
+    }
+
     /// What is lent.
     pub fn part(&mut self) -> &mut [T] {
         &mut self.memory[GUARD..GUARD + self.length]
@@ -78,5 +83,43 @@ impl<T: Entry> Lent<T> {
     /// Whether all of it is paint.
     pub fn is_painted(&self) -> bool {
         self.differs(&Lent::painted(self.length)).is_none()
+    }
+}
+
+/// A buffer for each side of a comparison, the same at first.
+#[derive(Clone)]
+pub struct Sides<T> {
+    /// Lent over the plain C interface.
+    pub raw: Lent<T>,
+    /// Lent to the wrapper.
+    pub wrapped: Lent<T>,
+    /// Lent to the second implementation.
+    pub own: Lent<T>,
+}
+
+impl<T: Entry> Sides<T> {
+    pub fn of(lent: Lent<T>) -> Sides<T> {
+        Sides { raw: lent.clone(), wrapped: lent.clone(), own: lent }
+    }
+
+    pub fn painted(length: usize) -> Sides<T> {
+        Sides::of(Lent::painted(length))
+    }
+
+    /// How many entries each of them has.
+    pub fn length(&self) -> usize {
+        self.own.length()
+    }
+
+    /// All three hold the same, inside what is lent and around it.
+    pub fn same(&self, input: impl Fn() -> String) {
+        assert_eq!(self.raw.differs(&self.own), None, "first other entry of the buffer, plain C interface, {}", input());
+        assert_eq!(self.wrapped.differs(&self.own), None, "first other entry of the buffer, wrapper, {}", input());
+    }
+
+    /// All three hold the same, and are as they were painted where the call was refused.
+    pub fn same_painted(&self, refused: bool, input: impl Fn() -> String) {
+        self.same(&input);
+        assert!(!refused || self.own.is_painted(), "buffer changed by a refusal, {}", input());
     }
 }

@@ -1,40 +1,59 @@
 //! What the test files share: numbers from fixed seeds, records sound and damaged, painted buffers, and answers laid out as words to compare.
+//!
+//! A case is worked three times: over the plain C interface, by the wrapper, and by the second implementation, which the other two are compared with.
 
 pub mod answers;
 pub mod lent;
 pub mod random;
+pub mod raw;
 pub mod records;
 
-use answers::{expected, Values, Words};
-use ploegelster::independent::Answer;
+use answers::{expected, wrapped, Values, Words};
+use independent::Answer;
+use ploegelster::Refusal;
 
 pub const END: i64 = 1 << 40;
 
-/// How many cases ran, and how many of them were given each number.
+/// How many cases ran over the plain C interface and how many with the wrapper, and how often each number was given.
 #[derive(Default)]
 pub struct Tally {
-    cases: u64,
+    raw: u64,
+    wrapped: u64,
     numbers: [u64; 10],
 }
 
 impl Tally {
-    /// One case: the library's answer has the words of the second implementation's.
-    pub fn same<T: Values>(&mut self, library: &impl Words, own: &Answer<T>, input: impl Fn() -> String) {
-        self.same_words(&library.words(), &expected(own), input);
+    /// One case: both have the words of the second implementation's answer.
+    pub fn same<T: Values, U: Values>(&mut self, raw: &impl Words, wrapper: &Result<U, Refusal>, own: &Answer<T>, input: impl Fn() -> String) {
+        self.same_raw(&raw.words(), &expected(own), &input);
+        self.same_wrapped(wrapper, own, &input);
     }
 
-    /// One case, already laid out as words; the first is the number.
-    pub fn same_words(&mut self, library: &[u64], own: &[u64], input: impl Fn() -> String) {
-        assert_eq!(library, own, "library left, second implementation right, for {}", input());
-        self.cases += 1;
+    /// The half of a case that is the plain C interface's, laid out as words; the first is the number.
+    pub fn same_raw(&mut self, raw: &[u64], own: &[u64], input: impl Fn() -> String) {
+        assert_eq!(raw, own, "library left, second implementation right, for {}", input());
+        self.raw += 1;
         self.numbers[own[0] as usize] += 1;
     }
 
-    /// Exactly so many cases ran, and exactly these numbers were given.
+    /// The half of a case that is the wrapper's.
+    pub fn same_wrapped<T: Values, U: Values>(&mut self, wrapper: &Result<U, Refusal>, own: &Answer<T>, input: impl Fn() -> String) {
+        assert_eq!(wrapped(wrapper), expected(own), "wrapper left, second implementation right, for {}", input());
+        self.wrapped += 1;
+    }
+
+    /// Exactly so many cases ran, each of them whole, and exactly these numbers were given.
     #[track_caller]
     pub fn ran(self, cases: u64, numbers: &[u64]) {
+        self.ran_apart(cases, cases, numbers);
+    }
+
+    /// The same where the wrapper takes fewer inputs than C does.
+    #[track_caller]
+    pub fn ran_apart(self, raw: u64, wrapped: u64, numbers: &[u64]) {
         let given: Vec<u64> = (0..10).filter(|&number| self.numbers[number as usize] > 0).collect();
-        assert_eq!((self.cases, &given[..]), (cases, numbers), "cases that ran, and numbers that were given");
+        let ran = (self.raw, self.wrapped, &given[..]);
+        assert_eq!(ran, (raw, wrapped, numbers), "cases over the plain C interface, cases with the wrapper, and numbers that were given");
     }
 }
 

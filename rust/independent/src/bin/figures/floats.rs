@@ -1,6 +1,6 @@
 //! Float readings: which are taken as samples, what the others are refused for, and what is left in the buffer.
 
-use ploegelster::independent::floats::float_sums;
+use independent::floats::float_sums;
 
 use crate::print::{answer, part, values};
 

@@ -2,9 +2,9 @@
 
 use std::fmt::Display;
 
-use ploegelster::independent::fractions::Fraction;
-use ploegelster::independent::sums::Sum;
-use ploegelster::independent::{Answer, Refusal};
+use independent::fractions::Fraction;
+use independent::sums::Sum;
+use independent::{Answer, Refusal};
 
 /// What was answered, or the refusal's number and place.
 pub fn answer(answer: Answer<impl Display>) -> String {

@@ -1,7 +1,7 @@
 //! Noise types, of pairs of time deviations at each bound and one past it, and of long records.
 
-use ploegelster::independent::noise::{noise_of_record, noise_type, Noise};
-use ploegelster::independent::Answer;
+use independent::noise::{noise_of_record, noise_type, Noise};
+use independent::Answer;
 
 use crate::print::answer;
 use crate::records::{self, LENGTH};

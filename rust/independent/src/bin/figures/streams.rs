@@ -1,9 +1,9 @@
 //! Streams fed to the running meter, sample by sample, beside the sums of the whole record.
 
-use ploegelster::independent::floats::Sums;
-use ploegelster::independent::meter::{self, Meter};
-use ploegelster::independent::sums::{allan_sum, modified_sum, Sum};
-use ploegelster::independent::Answer;
+use independent::floats::Sums;
+use independent::meter::{self, Meter};
+use independent::sums::{allan_sum, modified_sum, Sum};
+use independent::Answer;
 
 use crate::print::part;
 use crate::records::{self, END};

@@ -8,7 +8,7 @@ use super::{ask, greatest, Answer, LARGEST_DEVIATION};
 /// The factor of a record's noise type runs from 1 to this.
 pub const LARGEST_NOISE_FACTOR: u64 = 5_461;
 
-/// The five types, by the outline's names.
+/// The five types, by the rules' names.
 #[derive(Clone, Copy, Debug, PartialEq, Eq)]
 pub enum Noise {
     WhitePhase,

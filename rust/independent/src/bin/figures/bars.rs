@@ -1,10 +1,10 @@
 //! Error bars of deviations, with each noise type and at the ends of what is taken.
 
-use ploegelster::independent::noise::{bars, Bars, Noise};
+use independent::noise::{bars, Bars, Noise};
 
 use crate::print::{answer, bits};
 
-/// The types in the order of the outline's table.
+/// The types in the order of the rules' table.
 const TYPES: [Noise; 5] = [Noise::WhitePhase, Noise::FlickerPhase, Noise::WhiteFrequency, Noise::FlickerFrequency, Noise::RandomWalkFrequency];
 
 /// Deviation r, the place of the type and M.

@@ -1,9 +1,9 @@
 //! The entries that fill a lent buffer: phases of readings, differences of samples, samples without their drift. The drift's figure stands beside.
 
-use ploegelster::independent::drift::{drift_figure, remove_drift};
-use ploegelster::independent::frequency::{frequency_from_phase, phase_from_frequency};
-use ploegelster::independent::sums::allan_sum;
-use ploegelster::independent::Answer;
+use independent::drift::{drift_figure, remove_drift};
+use independent::frequency::{frequency_from_phase, phase_from_frequency};
+use independent::sums::allan_sum;
+use independent::Answer;
 
 use crate::print::{answer, sum, values, written};
 use crate::records::{self, END, LENGTH};

@@ -1,8 +1,8 @@
 //! Sums, fractions and deviations of long records at many factors and lengths.
 
-use ploegelster::independent::fractions::{allan_deviation, allan_fraction, time_deviation, time_fraction, Fraction};
-use ploegelster::independent::sums::{allan_sum, modified_sum, Sum};
-use ploegelster::independent::Answer;
+use independent::fractions::{allan_deviation, allan_fraction, time_deviation, time_fraction, Fraction};
+use independent::sums::{allan_sum, modified_sum, Sum};
+use independent::Answer;
 
 use crate::print::{self, answer};
 use crate::records;

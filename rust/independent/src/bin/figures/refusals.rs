@@ -1,7 +1,7 @@
 //! Which records are taken, and what the others are refused for.
 
-use ploegelster::independent::sums::{allan_sum, modified_sum, Sum};
-use ploegelster::independent::Answer;
+use independent::sums::{allan_sum, modified_sum, Sum};
+use independent::Answer;
 
 use crate::print::answer;
 use crate::records::END;

@@ -1,4 +1,4 @@
-//! The outline's figures to check by hand, in its order, worked by the second implementation alone.
+//! The rules' figures to check by hand, in their order, worked by the second implementation alone.
 
 use super::drawn::{allan_dot, drawn_number, time_dot, Dot};
 use super::drift::{drift_figure, remove_drift, Drift};

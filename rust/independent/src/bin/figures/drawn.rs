@@ -1,6 +1,6 @@
 //! Drawn numbers, at the ends of what is drawn and where a double begins to leave digits out.
 
-use ploegelster::independent::drawn::drawn_number;
+use independent::drawn::drawn_number;
 
 use crate::print::{answer, bits};
 

@@ -1,7 +1,7 @@
 //! Numbers in two halves, at the ends of what they hold.
 
-use ploegelster::independent::fractions::not_above;
-use ploegelster::independent::greatest;
+use independent::fractions::not_above;
+use independent::greatest;
 
 const MOST: u128 = u64::MAX as u128;
 

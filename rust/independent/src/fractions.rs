@@ -55,7 +55,7 @@ pub fn product(x: u128, y: u128) -> (u128, u128) {
     let (x1, x0, y1, y0) = (x >> 64, x & WORD, y >> 64, y & WORD);
     let (outer, inner) = (x1 * y0, x0 * y1);
     let middle = ((x0 * y0) >> 64) + (outer & WORD) + (inner & WORD);
-    (x1 * y1 + (outer >> 64) + (inner >> 64) + (middle >> 64), (middle << 64) | (x0 * y0 & WORD))
+    (x1 * y1 + (outer >> 64) + (inner >> 64) + (middle >> 64), (middle << 64) | ((x0 * y0) & WORD))
 }
 
 /// Whether r^2 D is not above A times 2^40.

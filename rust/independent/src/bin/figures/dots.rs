@@ -1,7 +1,7 @@
 //! Fractions and plot dots of sums with a factor and a count, Allan and time.
 
-use ploegelster::independent::drawn::{allan_dot, time_dot, Dot};
-use ploegelster::independent::fractions::{allan_fraction, time_fraction};
+use independent::drawn::{allan_dot, time_dot, Dot};
+use independent::fractions::{allan_fraction, time_fraction};
 
 use crate::print::{answer, bits, fraction, halves};
 

@@ -1,5 +1,5 @@
-//! A second implementation of the outline, in plain Rust with whole numbers of 128 bits. Nothing here is shared with the library: it was written
-//! from the outline and the project's documents, with no look at the library's code or definitions, so that the two can be compared.
+//! A second implementation of the rules (docs/RULES.md), in plain Rust with whole numbers of 128 bits. Nothing here is shared with the library: it
+//! was written from the rules and the project's documents, with no look at the library's code or definitions, so that the two can be compared.
 
 pub mod drawn;
 pub mod drift;
@@ -27,7 +27,7 @@ pub const LARGEST_DEVIATION: u64 = 1 << 62;
 /// A sum handed in lies below this.
 pub const SUM_END: u128 = 1 << 126;
 
-/// Why a call was refused, by the outline's number, and where.
+/// Why a call was refused, by the rules' number, and where.
 #[derive(Clone, Copy, Debug, PartialEq, Eq)]
 pub struct Refusal {
     pub number: u64,

@@ -1,0 +1,60 @@
+//! Records turned into records: phase and frequency, drift, float readings.
+
+use crate::boundary::{self, CountAnswer};
+use crate::refusals::{answered, Refusal};
+use crate::sums::{sums_of, Sums};
+
+/// Drift as P over R.
+#[must_use]
+#[derive(Clone, Copy, Debug, PartialEq, Eq)]
+pub struct Drift {
+    /// P = (x_(N-1) - x_(N-2)) - (x_1 - x_0).
+    pub p: i64,
+    /// R = N-2.
+    pub r: u64,
+}
+
+pub(crate) fn count_of(answer: CountAnswer) -> Result<usize, Refusal> {
+    answered(answer.number, answer.place)?;
+    Ok(answer.count as usize)
+}
+
+/// Phases from frequency readings, written to the buffer: M readings give M+1 phases, from 0 on. Gives how many were written.
+///
+/// Refuses 2 (M above 32,767), 6 (buffer below M+1), 3 (at the first reading whose running phase leaves the sample range).
+pub fn phase_from_frequency(readings: &[i64], buffer: &mut [i64]) -> Result<usize, Refusal> {
+    count_of(unsafe { boundary::plg_phase_from_frequency(readings.as_ptr(), readings.len(), buffer.as_mut_ptr(), buffer.len()) })
+}
+
+/// Frequency readings from phases, written to the buffer: N samples give N-1 differences. Gives how many were written.
+///
+/// Refuses 2 (N above 32,768), 1 (N = 0), 6 (buffer below N-1), 3 (at the first sample outside its range).
+pub fn frequency_from_phase(samples: &[i64], buffer: &mut [i64]) -> Result<usize, Refusal> {
+    count_of(unsafe { boundary::plg_frequency_from_phase(samples.as_ptr(), samples.len(), buffer.as_mut_ptr(), buffer.len()) })
+}
+
+/// The drift figure P over R.
+///
+/// Refuses 2 (N above 32,768), 1 (N below 3), 3 (at the first sample outside its range).
+pub fn drift_figure(samples: &[i64]) -> Result<Drift, Refusal> {
+    let answer = unsafe { boundary::plg_drift_figure(samples.as_ptr(), samples.len()) };
+    answered(answer.number, answer.place)?;
+    Ok(Drift { p: answer.p, r: answer.r })
+}
+
+/// The record with its drift removed, written to the buffer: x_i - floor(P i (i-1) / (2R)), floored once, toward minus infinity. Gives how many were
+/// written.
+///
+/// Refuses 2 (N above 32,768), 1 (N below 3), 6 (buffer below N), 3 (at the first sample outside its range), 3 (at the first result outside it).
+pub fn remove_drift(samples: &[i64], buffer: &mut [i64]) -> Result<usize, Refusal> {
+    count_of(unsafe { boundary::plg_remove_drift(samples.as_ptr(), samples.len(), buffer.as_mut_ptr(), buffer.len()) })
+}
+
+/// Samples from doubles, N of them, written to the buffer, and both sums of them. The Allan sum is always due; the modified one is none where N is
+/// below 3m.
+///
+/// Refuses 5 (m not from 1 to 10,922), 2 (N above 32,768), 1 (N below 2m+1), 6 (buffer below N), then at the lowest index 3 (infinite or beyond the
+/// sample range) or 4 (in range and not whole, or not a number).
+pub fn float_sums(readings: &[f64], m: u64, buffer: &mut [i64]) -> Result<Sums, Refusal> {
+    sums_of(unsafe { boundary::plg_float_sums(readings.as_ptr(), readings.len(), m, buffer.as_mut_ptr(), buffer.len()) })
+}

@@ -1,0 +1,61 @@
+//! What the wrapper adds to the library: grounds, kinds and types for numbers, and words for a refusal.
+
+use ploegelster::{Ground, Kind, Meter, Noise, Refusal, Wide};
+use std::error::Error;
+
+#[test]
+fn every_number_has_its_ground_and_no_other_has_one() {
+    for number in 1..=9 {
+        assert_eq!(Ground::from_number(number).map(Ground::number), Some(number));
+    }
+    for number in [0, 10, 11, 255, 257, 1 << 32 | 1, u64::MAX] {
+        assert_eq!(Ground::from_number(number), None);
+    }
+}
+
+#[test]
+fn every_alpha_has_its_type_and_no_other_has_one() {
+    for alpha in -2..=2 {
+        assert_eq!(Noise::from_alpha(alpha).map(Noise::alpha), Some(alpha));
+    }
+    for alpha in [-3, 3, 254, 256, 1 << 32, i64::MIN, i64::MAX] {
+        assert_eq!(Noise::from_alpha(alpha), None);
+    }
+}
+
+#[test]
+fn every_kind_has_its_number_and_no_other_has_one() {
+    assert_eq!([0, 1, 2, 256, 1 << 32, u64::MAX].map(Kind::from_number), [Some(Kind::Phase), Some(Kind::Frequency), None, None, None, None]);
+}
+
+#[test]
+fn a_refusal_in_words() {
+    let refusal = Refusal { ground: Ground::OutOfRange, place: 7 };
+    assert_eq!(refusal.to_string(), "refused 3, a value outside its range, at 7");
+    assert_eq!(refusal.ground.to_string(), "a value outside its range");
+    let error: Box<dyn Error> = refusal.into();
+    assert_eq!(error.to_string(), refusal.to_string());
+}
+
+#[test]
+fn halves() {
+    const MOST: u64 = u64::MAX;
+    let wholes = [(0, 0, 0), (1, 0, 1), (MOST as u128, 0, MOST), (1 << 64, 1, 0), (5 << 64 | 7, 5, 7), (u128::MAX - 1, MOST, MOST - 1)];
+    for (whole, high, low) in wholes {
+        assert_eq!(Wide::from(whole), Wide { high, low });
+        assert_eq!(u128::from(Wide { high, low }), whole);
+    }
+}
+
+#[test]
+fn a_meter_outlives_a_refusal() -> Result<(), Refusal> {
+    let mut ring = [0; 3];
+    let mut meter = ploegelster::meter_start(Meter::NOUGHTS, 1, &ring)?;
+    for x in [0, 1, 4, 1 << 41, 9] {
+        meter = ploegelster::meter_sample(meter, &mut ring, x).unwrap_or(meter);
+    }
+    assert_eq!((meter.n, ring), (4, [9, 1, 4]));
+    let sum = ploegelster::meter_report(meter)?.allan.expect("four samples at factor 1");
+    assert_eq!(sum, ploegelster::allan_sum(&[0, 1, 4, 9], 1)?);
+    Ok(())
+}
