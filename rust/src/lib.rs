@@ -3,16 +3,16 @@
 //! A record is a slice of phase samples, whole picoseconds. From a record to its Allan deviation at factor 1, and what a refusal looks like:
 //!
 //! ```
-//! use ploegelster::{allan_deviation, allan_sum, drawn_number, Ground, Refusal, SAMPLE_END};
+//! use ploegelster::{allan_deviation, allan_sum, Ground, Refusal, SAMPLE_END};
 //!
-//! fn deviation(samples: &[i64], m: u64) -> Result<f64, Refusal> {
+//! // in units of 2^-20 picoseconds per basic interval
+//! fn deviation(samples: &[i64], m: u64) -> Result<u64, Refusal> {
 //!     let sum = allan_sum(samples, m)?;
-//!     let r = allan_deviation(sum.total, m, sum.count)?;
-//!     drawn_number(r)
+//!     allan_deviation(sum.total, m, sum.count)
 //! }
 //!
 //! let mut samples = [0, 1, 4, 9, 16, 25, 36, 49, 64];
-//! assert_eq!(format!("{:.6}", deviation(&samples, 1)?), "1.414213");
+//! assert_eq!(deviation(&samples, 1)?, 1_482_910);
 //!
 //! samples[7] = SAMPLE_END + 1;
 //! let refusal = deviation(&samples, 1).unwrap_err();
