@@ -565,7 +565,7 @@ def check_versions(house):
 
 
 def check_documents(house):
-    for path in ["README.md", *house.files("docs/**/*.md")]:
+    for path in ["README.md", "CONTRIBUTING.md", *house.files("docs/**/*.md")]:
         for start, piece in blocks(house.text(path)):
             for line, text in enumerate(piece, start):
                 check_line(house, path, line, text)
@@ -577,8 +577,6 @@ def check_line(house, path, line, text):
             house.seen["paths"].add(word)
             if not house.has(word):
                 house.lack(f"{path}:{line}: {word} is not there")
-    if re.search(r"\boutline", re.sub(r'"[^"]*"|^>.*', "", text), re.I):
-        house.lack(f"{path}:{line}: says outline, where the rules are meant")
 
 
 # ----

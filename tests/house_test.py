@@ -111,8 +111,7 @@ CASES = [
     (HEADER, "#define PLG_VERSION_MINOR", "#define PLG_MINOR", "include/ploegelster.h does not define PLG_VERSION_MAJOR"),
     ("README.md", "# Ploegelster\n", "# Ploegelster\n\nSee `examples/quartz.c`.\n", "README.md:3: examples/quartz.c is not there"),
     ("README.md", "# Ploegelster\n", "# Ploegelster\n\nSee `/usr/include/stdio.h`.\n", "README.md:3: /usr/include/stdio.h is not there"),
-    ("README.md", "# Ploegelster\n", "# Ploegelster\n\nSee the outline.\n", "README.md:3: says outline"),
-    ("docs/DECISIONS.md", "# Decisions\n", '# Decisions\n\nHe wrote "as the outline has it".\n', None),
+    ("CONTRIBUTING.md", "## Versions\n", "## Versions\n\nSee `rust/src/quartz.rs`.\n", "rust/src/quartz.rs is not there"),
 ]
 
 
