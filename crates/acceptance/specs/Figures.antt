@@ -1,11 +1,11 @@
 -- The starred figures of the rules, a row each, over what the entries answer.
 use mathlib.Core.Bool.{Bool, true, false, cond, _&&_}
 use mathlib.Core.List.{List, [], _∷_}
-use Prim.Native.Nat.{ℕ, _-_, _^_}
+use Prim.Native.Nat.{ℕ, _-_, _^_, _/_, _%_}
 use lib.Dec.{eqb}
 use lib.IntN.{ℤ, pos, negsuc}
 use lib.Signed.{leZ}
-use Rattle.wide.specs.Wide.{value}
+use Rattle.wide.specs.declared.Wide.{Wide}
 use Rattle.frequency.specs.Frequency.{phases}
 use Rattle.drift.specs.Drift.{driftAnswer, withoutDrift}
 use Rattle.sums.specs.Answers.{allanSumAnswer, modifiedSumAnswer}
@@ -47,20 +47,24 @@ sameList [] (y ∷ ys) = false
 sameList (x ∷ xs) [] = false
 sameList (x ∷ xs) (y ∷ ys) = sameℤ x y && sameList xs ys
 
+-- a number in two halves
+abbrev pub inHalves : Wide → ℕ → Bool
+inHalves w n = eqb (w .hi) (n / 2 ^ 64) && eqb (w .lo) (n % 2 ^ 64)
+
 -- an answered sum with its count
 abbrev pub isSum : SumAnswer → ℕ → ℕ → Bool
 isSum s total count =
-    eqb (s .number) 0 && (eqb (s .place) 0 && (eqb (value (s .sum)) total && eqb (s .count) count))
+    eqb (s .number) 0 && (eqb (s .place) 0 && (inHalves (s .sum) total && eqb (s .count) count))
 
 -- a refused sum, with noughts
 abbrev pub isRefused : SumAnswer → ℕ → ℕ → Bool
 isRefused s number place =
-    eqb (s .number) number && (eqb (s .place) place && (eqb (value (s .sum)) 0 && eqb (s .count) 0))
+    eqb (s .number) number && (eqb (s .place) place && (inHalves (s .sum) 0 && eqb (s .count) 0))
 
 -- an answered fraction
 abbrev pub isFraction : FractionAnswer → ℕ → ℕ → Bool
 isFraction f above below =
-    eqb (f .number) 0 && (eqb (f .place) 0 && (eqb (value (f .numerator)) above && eqb (f .denominator) below))
+    eqb (f .number) 0 && (eqb (f .place) 0 && (inHalves (f .numerator) above && eqb (f .denominator) below))
 
 -- ---- whether a row holds
 
