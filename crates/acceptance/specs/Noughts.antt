@@ -68,7 +68,7 @@ ReadNought z = (z .kind ≡ 0) × (z .count ≡ 0)
 abbrev pub DrawnNought : DrawnAnswer → Type 0
 DrawnNought z = z .value ≡ plusZero
 
--- the dot is nought, and the paper's number and value of it are noughts
+-- the dot is nought, and the number and the value that it stands for are noughts
 abbrev pub DotNought : DotAnswer → Type 0
 DotNought z = (z .dot ≡ Nought) × (dotNumber (z .dot) ≡ 0) × (dotValue (z .dot) ≡ plusZero)
 

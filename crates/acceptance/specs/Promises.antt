@@ -151,7 +151,7 @@ pub record DrawnOf (r : ℕ) (z : DrawnAnswer) : Type 0 where
   pub below : r < 1 → z .number ≡ 3
   pub above : 2 ^ 63 < r → z .number ≡ 3
 
--- the dot of the variance a / d: r is its deviation. dotNumber and dotValue are the paper's number and value of each case
+-- the dot of the variance a / d: r is its deviation. dotNumber and dotValue are the number and the value that each dot stands for
 pub record DotOf (a d : ℕ) (z : DotAnswer) : Type 0 where
   pub r : ℕ
   pub greatest : Greatest (within a d) r

@@ -1,4 +1,4 @@
--- Noise types: the table of the paper, and the house rule.
+-- Noise types: the table of the rules, and the house rule.
 use mathlib.Core.Bool.{cond, not, _&&_}
 use mathlib.Core.List.{List}
 use Prim.Native.Nat.{ℕ, _*_, _^_}

@@ -43,7 +43,7 @@ module _ (d : DeviationAnswer) where
   unfolding dotAnswer
   refused-dot refused other = rw (ne-eqb (d .number) 0 refused, ne-eqb (d .number) 1 other)
 
--- ---- in the paper's number and value of each case
+-- ---- the number and the value that each dot stands for
 
 abbrev pub Told : Dot → ℕ → Float → Type 0
 Told dot n v = (dotNumber dot ≡ n) × (dotValue dot ≡ v)

@@ -10,7 +10,7 @@ use Rattle.plot.specs.declared.dots.Dot.{Dot}
 use Rattle.plot.specs.declared.dots.Dot.the-variants.{Drawn, Nought, TooFew}
 use Rattle.plot.specs.declared.dots.DotAnswer.{DotAnswer}
 
--- the paper's number and value of each case
+-- the number and the value that each dot stands for
 unfoldable pub dotNumber : Dot → ℕ
 dotNumber (Drawn v) = 0
 dotNumber Nought = 0

@@ -47,6 +47,11 @@ fn squares(phases: &[i64; 9]) {
 // One line: a first difference squared.
 fn square(x: [i64; 3], printed: u64) {
     let answer = sums::allan_sum(&x, 1);
+    if answer.number != 0 {
+        text(b"first difference squared ");
+        refusal(answer.number, answer.place);
+        return;
+    }
     let square = answer.sum.lo;
     let ours = rounded(square, 100);
     text(b"first difference squared ");
@@ -123,6 +128,11 @@ fn variance(total: Wide, count: u64) {
 // Two lines: the deviation, rounded and cut off. The note cuts off: even the root of its rounded 3.2e-11 is nearer 5.7e-6.
 fn deviation(total: Wide, count: u64) {
     let answer = variances::allan_deviation(total, 1, count);
+    if answer.number != 0 {
+        text(b"deviation ");
+        refusal(answer.number, answer.place);
+        return;
+    }
     let r = answer.deviation;
     one_deviation(b"rounded ", r, rounded(r, 1048576));
     one_deviation(b"cut off ", r, r / 1048576);

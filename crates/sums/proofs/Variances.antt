@@ -1,11 +1,10 @@
 -- The time variance is m^2/3 times the modified variance, and at factor 1 the modified variance is the Allan variance.
 use mathlib.Core.Path.{_≡_, ap, _∙_}
 use mathlib.Core.List.{List}
-use Prim.Native.Nat.{ℕ, _+_, _-_, _*_}
+use Prim.Native.Nat.{ℕ, _+_, _*_}
 use native.Mathlib.Nat.{add-zero}
 use native.Mathlib.Omega.{arith}
 use lib.IntN.{ℤ, +ℤ-idl}
-use lib.ListN.{length}
 use Rattle.laws.specs.Sums.{sum, sumℤ, square}
 use Rattle.laws.proofs.SumLaws.{sum-equal}
 use Rattle.sums.specs.Published.{difference, windowSum, allanSum, allanCount, allanDenominator, modifiedSum, modifiedCount, modifiedDenominator, timeDenominator}
