@@ -1,5 +1,5 @@
 -- Condition 2: the published figure, exactly. Each theorem speaks of every result that the function's own contract allows (Always,
--- crates/laws/proofs/Single.antt); what is promised of a result stands in specs/Promises.antt. The exported functions have the same contracts
+-- crates/laws/specs/Single.antt); what is promised of a result stands in specs/Promises.antt. The exported functions have the same contracts
 -- (Condition1.antt, NAME-is), or tell the same answers in numbers (NAME-tells).
 use mathlib.Core.Path.{_≡_, refl, _∙_, ap}
 use mathlib.Core.Bool.{true}
@@ -12,7 +12,7 @@ use lib.ListN.{length, getD, take}
 use Rattle.laws.specs.Greatest.{Greatest}
 use Rattle.laws.specs.Lists.{at, firstFailing}
 use Rattle.laws.specs.Sums.{sum}
-use Rattle.laws.proofs.Single.{Always}
+use Rattle.laws.specs.Single.{Always}
 use Rattle.wide.specs.Wide.{value}
 use Rattle.record.specs.Refusals.{inRange, rangeRefusal, sizeRefusal, recordRefusal}
 use Rattle.sums.specs.Published.{difference, allanCount, allanSum, modifiedSum, allanDenominator}

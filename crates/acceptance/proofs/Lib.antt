@@ -1,3 +1,5 @@
+pub mod Grounding
+pub mod RecordGrounds
 pub mod Figures
 pub mod NoughtLaws
 pub mod PromiseLaws

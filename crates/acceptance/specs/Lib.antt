@@ -1,3 +1,4 @@
 pub mod Figures
 pub mod Noughts
 pub mod Promises
+pub mod Grounds

@@ -1,6 +1,6 @@
 -- Each contract of this crate leaves one answer: any two results that it allows of the same arguments are equal.
 use mathlib.Core.Path.{sym, _∙_}
-use Rattle.laws.proofs.Single.{Single}
+use Rattle.laws.specs.Single.{Single}
 use Rattle.frequency.proofs.phase_from_frequency.Reads as phase-from-frequency
 use Rattle.frequency.proofs.phase_from_frequency.Kinds as phase-from-frequency-kinds
 use Rattle.frequency.proofs.frequency_from_phase.Reads as frequency-from-phase

@@ -1,4 +1,3 @@
-pub mod Single
 pub mod Tests
 pub mod ListLaws
 pub mod GreatestLaws

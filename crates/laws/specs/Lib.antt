@@ -1,3 +1,4 @@
 pub mod Sums
 pub mod Lists
 pub mod Greatest
+pub mod Single

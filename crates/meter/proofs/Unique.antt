@@ -1,6 +1,6 @@
 -- Each public function's contract leaves one answer, and a sample call's leaves one content of the ring.
 use mathlib.Core.Path.{refl, sym, _∙_}
-use Rattle.laws.proofs.Single.{Single}
+use Rattle.laws.specs.Single.{Single}
 use Rattle.meter.proofs.Meter.start.Reads as start
 use Rattle.meter.proofs.Meter.start.Kinds as start-kinds
 use Rattle.meter.proofs.Meter.sample.Reads as sample

@@ -1,6 +1,6 @@
 -- Each public function's contract leaves one answer.
 use mathlib.Core.Path.{refl, sym, _∙_}
-use Rattle.laws.proofs.Single.{Single}
+use Rattle.laws.specs.Single.{Single}
 use Rattle.noise.proofs.noise_type.Reads as noise-type
 use Rattle.noise.proofs.noise_type.Kinds as noise-type-kinds
 use Rattle.noise.proofs.noise_of_record.Reads as noise-of-record

@@ -1,6 +1,6 @@
 -- Each contract of this crate leaves one answer and one content of the lent buffer: any two that it allows of the same arguments are equal.
 use mathlib.Core.Path.{sym, _∙_}
-use Rattle.laws.proofs.Single.{Single}
+use Rattle.laws.specs.Single.{Single}
 use Rattle.phr.proofs.read_file.Reads as read-file
 use Rattle.phr.proofs.read_file.Kinds as read-file-kinds
 use Rattle.phr.proofs.write_file.Reads as write-file

@@ -1,6 +1,6 @@
 -- Each exported function's contract leaves one answer, and one content of each buffer that it may write.
 use mathlib.Core.Path.{refl, sym, _∙_}
-use Rattle.laws.proofs.Single.{Single}
+use Rattle.laws.specs.Single.{Single}
 use Rattle.ploegelster.proofs.published.plg_allan_sum.Reads as plg-allan-sum
 use Rattle.ploegelster.proofs.published.plg_allan_sum.Kinds as plg-allan-sum-kinds
 use Rattle.ploegelster.proofs.published.plg_modified_sum.Reads as plg-modified-sum

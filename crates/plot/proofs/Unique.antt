@@ -1,6 +1,6 @@
 -- Each public function's contract leaves one answer.
 use mathlib.Core.Path.{refl, sym, _∙_}
-use Rattle.laws.proofs.Single.{Single}
+use Rattle.laws.specs.Single.{Single}
 use Rattle.plot.proofs.drawn.drawn_number.Reads as drawn-number
 use Rattle.plot.proofs.drawn.drawn_number.Kinds as drawn-number-kinds
 use Rattle.plot.proofs.dots.allan_dot.Reads as allan-dot

@@ -1,6 +1,6 @@
 -- The contract of this crate's entry leaves one answer: any two results that it allows of the same arguments are equal.
 use mathlib.Core.Path.{sym, _∙_}
-use Rattle.laws.proofs.Single.{Single}
+use Rattle.laws.specs.Single.{Single}
 use Rattle.readings.proofs.float_sums.Reads as float-sums
 use Rattle.readings.proofs.float_sums.Kinds as float-sums-kinds
 

@@ -1,6 +1,6 @@
 -- Each contract of this crate leaves one answer: any two results that it allows of the same arguments are equal.
 use mathlib.Core.Path.{refl, sym, _∙_}
-use Rattle.laws.proofs.Single.{Single}
+use Rattle.laws.specs.Single.{Single}
 use Rattle.record.proofs.in_range.Reads as in-range
 use Rattle.record.proofs.in_range.Kinds as in-range-kinds
 use Rattle.record.proofs.range_refusal.Reads as range-refusal

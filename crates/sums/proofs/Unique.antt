@@ -1,6 +1,6 @@
 -- Each public function's contract leaves one answer.
 use mathlib.Core.Path.{refl, sym, _∙_}
-use Rattle.laws.proofs.Single.{Single}
+use Rattle.laws.specs.Single.{Single}
 use Rattle.sums.proofs.allan_sum.Reads as allan-sum
 use Rattle.sums.proofs.allan_sum.Kinds as allan-sum-kinds
 use Rattle.sums.proofs.modified_sum.Reads as modified-sum

@@ -1,6 +1,6 @@
 -- Each public function's contract leaves one answer.
 use mathlib.Core.Path.{refl, sym, _∙_}
-use Rattle.laws.proofs.Single.{Single}
+use Rattle.laws.specs.Single.{Single}
 use Rattle.variances.proofs.allan_fraction.Reads as allan-fraction
 use Rattle.variances.proofs.allan_fraction.Kinds as allan-fraction-kinds
 use Rattle.variances.proofs.time_fraction.Reads as time-fraction

@@ -1,6 +1,6 @@
 -- Each public function's contract leaves one answer.
 use mathlib.Core.Path.{refl, sym, _∙_}
-use Rattle.laws.proofs.Single.{Single}
+use Rattle.laws.specs.Single.{Single}
 use Rattle.wide.proofs.sum.Reads as sum
 use Rattle.wide.proofs.sum.Kinds as sum-kinds
 use Rattle.wide.proofs.at_most.Reads as at-most

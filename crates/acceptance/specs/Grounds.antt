@@ -1,0 +1,232 @@
+-- The ground of every refusal, a table for each family of entries, to be held against the rules (docs/RULES.md) line by line. A row is a line: what
+-- must hold, no earlier row among it, then the number and the place. Written from the rules, in bounds and relations; no definition of a refusal that
+-- the contracts cite stands here.
+use mathlib.Core.Path.{_≡_}
+use mathlib.Core.Bool.{Bool}
+use mathlib.Core.List.{List}
+use mathlib.Core.Logic.{_⊎_}
+use Prim.Native.Nat.{ℕ, _+_, _-_, _*_, _%_, _^_, _≤_, _<_}
+use lib.Ieee.{Float, nan, inf}
+use lib.Ieee.Exact.{HasValue}
+use lib.IntN.{ℤ, natAbs}
+use lib.ListN.{length, getD}
+use Rattle.laws.specs.Greatest.{Greatest}
+use Rattle.laws.specs.Lists.{at}
+use Rattle.laws.specs.Sums.{sumℤ}
+use Rattle.sums.specs.Published.{modifiedSum}
+use Rattle.variances.specs.Deviations.{within}
+use Rattle.drift.specs.Drift.{withoutDrift}
+use Rattle.meter.specs.declared.Meter.{Meter}
+use Rattle.phr.specs.Bytes.{valueAt}
+
+-- ---- what a table says of an answer
+
+-- no row of a table holds
+abbrev pub NoRow : (ℕ → ℕ → Type 0) → Type 0
+NoRow Row = (n p : ℕ) → Row n p → ⊥
+
+-- an answer's number and place are n and p, n not nought, exactly when the row of n and p holds; they are noughts exactly when no row does
+pub record Grounded (Row : ℕ → ℕ → Type 0) (number place : ℕ) : Type 0 where
+  pub refused : (number ≡ 0 → ⊥) → Row number place
+  pub row : (n p : ℕ) → Row n p → (n ≡ 0 → ⊥) × (number ≡ n) × (place ≡ p)
+  pub answered : number ≡ 0 → (place ≡ 0) × NoRow Row
+  pub no-row : NoRow Row → (number ≡ 0) × (place ≡ 0)
+
+-- ---- words of the rules
+
+-- from low to high, both ends allowed, and not so
+abbrev pub Between : ℕ → ℕ → ℕ → Type 0
+Between low high n = (low ≤ n) × (n ≤ high)
+
+abbrev pub Outside : ℕ → ℕ → ℕ → Type 0
+Outside low high n = (n < low) ⊎ (high < n)
+
+-- of the indices below n, i is the first that is bad; none is bad
+pub record First (n : ℕ) (Bad : ℕ → Type 0) (i : ℕ) : Type 0 where
+  pub inside : i < n
+  pub bad : Bad i
+  pub before : (k : ℕ) → k < i → Bad k → ⊥
+
+abbrev pub None : ℕ → (ℕ → Type 0) → Type 0
+None n Bad = (k : ℕ) → k < n → Bad k → ⊥
+
+-- sample k of a record is outside its range
+abbrev pub OutOfRange : List ℤ → ℕ → Type 0
+OutOfRange xs k = 2 ^ 40 < natAbs (at xs k)
+
+-- ---- records
+
+-- 3 at the first sample out of range
+pub data OfRange (xs : List ℤ) : ℕ → ℕ → Type 0 where
+  range : {i : ℕ} → First (length xs) (OutOfRange xs) i → OfRange xs 3 i
+
+-- a factor m of at most the largest; n samples, the fewest or more
+module _ (largest fewest m : ℕ) where
+  pub data OfSize (n : ℕ) : ℕ → ℕ → Type 0 where
+    factor : Outside 1 largest m → OfSize n 5 0
+    many : Between 1 largest m → 32768 < n → OfSize n 2 0
+    few : Between 1 largest m → n ≤ 32768 → n < fewest → OfSize n 1 0
+
+  pub data OfRecord (xs : List ℤ) : ℕ → ℕ → Type 0 where
+    size : {n p : ℕ} → OfSize (length xs) n p → OfRecord xs n p
+    range : {i : ℕ} → NoRow (OfSize (length xs)) → First (length xs) (OutOfRange xs) i → OfRecord xs 3 i
+
+-- ---- fractions, deviations and dots, of a sum at factor m with its count
+
+module _ (sum m count : ℕ) where
+  pub data OfFraction : ℕ → ℕ → Type 0 where
+    factor : Outside 1 10922 m → OfFraction 5 0
+    no-count : Between 1 10922 m → count ≡ 0 → OfFraction 1 0
+    many : Between 1 10922 m → 32768 < count → OfFraction 2 0
+    large : Between 1 10922 m → Between 1 32768 count → 2 ^ 126 ≤ sum → OfFraction 3 0
+
+  -- r would be the deviation of the variance sum / d
+  pub data OfDeviation (d : ℕ) : ℕ → ℕ → Type 0 where
+    fraction : {n p : ℕ} → OfFraction n p → OfDeviation d n p
+    above : {r : ℕ} → NoRow OfFraction → Greatest (within sum d) r → 2 ^ 62 < r → OfDeviation d 3 0
+
+  -- a count of 0, the one row of number 1, is no refusal but the dot too few
+  pub data OfDot (d : ℕ) : ℕ → ℕ → Type 0 where
+    deviation : {n p : ℕ} → (n ≡ 1 → ⊥) → OfDeviation d n p → OfDot d n p
+
+-- ---- phase and frequency, with room for so many in the lent buffer
+
+pub data OfPhases (ys : List ℤ) (room : ℕ) : ℕ → ℕ → Type 0 where
+  many : 32767 < length ys → OfPhases ys room 2 0
+  no-room : length ys ≤ 32767 → room < length ys + 1 → OfPhases ys room 6 0
+  leaves : {i : ℕ} → length ys ≤ 32767 → length ys + 1 ≤ room → First (length ys) (λ k. 2 ^ 40 < natAbs (sumℤ (k + 1) (at ys))) i → OfPhases ys room 3 i
+
+pub data OfDifferences (xs : List ℤ) (room : ℕ) : ℕ → ℕ → Type 0 where
+  many : 32768 < length xs → OfDifferences xs room 2 0
+  no-sample : length xs ≡ 0 → OfDifferences xs room 1 0
+  no-room : Between 1 32768 (length xs) → room < length xs - 1 → OfDifferences xs room 6 0
+  range : {i : ℕ} → Between 1 32768 (length xs) → length xs - 1 ≤ room → First (length xs) (OutOfRange xs) i → OfDifferences xs room 3 i
+
+-- ---- drift
+
+pub data OfDrift (xs : List ℤ) : ℕ → ℕ → Type 0 where
+  many : 32768 < length xs → OfDrift xs 2 0
+  few : length xs < 3 → OfDrift xs 1 0
+  range : {i : ℕ} → Between 3 32768 (length xs) → First (length xs) (OutOfRange xs) i → OfDrift xs 3 i
+
+pub data OfRemoval (xs : List ℤ) (room : ℕ) : ℕ → ℕ → Type 0 where
+  many : 32768 < length xs → OfRemoval xs room 2 0
+  few : length xs < 3 → OfRemoval xs room 1 0
+  no-room : Between 3 32768 (length xs) → room < length xs → OfRemoval xs room 6 0
+  range : {i : ℕ} → Between 3 32768 (length xs) → length xs ≤ room → First (length xs) (OutOfRange xs) i → OfRemoval xs room 3 i
+  result : {i : ℕ} → Between 3 32768 (length xs) → length xs ≤ room → None (length xs) (OutOfRange xs) →
+      First (length xs) (OutOfRange (withoutDrift xs)) i → OfRemoval xs room 3 i
+
+-- ---- float readings: a / c is the size of a reading's exact value
+
+pub data TooFar (x : Float) : Type 0 where
+  infinite : {s : Bool} → x ≡ inf s → TooFar x
+  beyond : (s : Bool) (a c : ℕ) → 0 < c → HasValue x s a c → 2 ^ 40 * c < a → TooFar x
+
+pub data NotWhole (x : Float) : Type 0 where
+  no-number : x ≡ nan → NotWhole x
+  fraction : (s : Bool) (a c : ℕ) → 0 < c → HasValue x s a c → a ≤ 2 ^ 40 * c → (a % c ≡ 0 → ⊥) → NotWhole x
+
+-- reading k is no sample
+abbrev pub NoSample : List Float → ℕ → Type 0
+NoSample xs k = TooFar (getD xs k nan) ⊎ NotWhole (getD xs k nan)
+
+module _ (m : ℕ) (xs : List Float) (room : ℕ) where
+  pub data OfReadings : ℕ → ℕ → Type 0 where
+    size : {n p : ℕ} → OfSize 10922 (2 * m + 1) m (length xs) n p → OfReadings n p
+    no-room : NoRow (OfSize 10922 (2 * m + 1) m (length xs)) → room < length xs → OfReadings 6 0
+    far : {i : ℕ} → NoRow (OfSize 10922 (2 * m + 1) m (length xs)) → length xs ≤ room → First (length xs) (NoSample xs) i → TooFar (getD xs i nan) → OfReadings 3 i
+    uneven : {i : ℕ} → NoRow (OfSize 10922 (2 * m + 1) m (length xs)) → length xs ≤ room → First (length xs) (NoSample xs) i → NotWhole (getD xs i nan) → OfReadings 4 i
+
+-- ---- drawn numbers, noise types and bars
+
+pub data OfDrawn (r : ℕ) : ℕ → ℕ → Type 0 where
+  range : Outside 1 (2 ^ 63) r → OfDrawn r 3 0
+
+pub data OfType (r1 r2 : ℕ) : ℕ → ℕ → Type 0 where
+  above : (2 ^ 62 < r1) ⊎ (2 ^ 62 < r2) → OfType r1 r2 3 0
+  nought : r1 ≡ 0 → r2 ≤ 2 ^ 62 → OfType r1 r2 8 0
+
+-- of a record: the deviation at m is nought
+pub data OfRecordType (m : ℕ) (xs : List ℤ) : ℕ → ℕ → Type 0 where
+  of-record : {n p : ℕ} → OfRecord 5461 (6 * m) m xs n p → OfRecordType m xs n p
+  nought : NoRow (OfRecord 5461 (6 * m) m xs) → Greatest (within (modifiedSum m xs) (6 * (m * m) * (length xs - 3 * m + 1))) 0 → OfRecordType m xs 8 0
+
+-- the types are those of alpha -2 to 2
+pub data OfBars (r : ℕ) (alpha : ℤ) (M : ℕ) : ℕ → ℕ → Type 0 where
+  no-type : 2 < natAbs alpha → OfBars r alpha M 3 0
+  nought : natAbs alpha ≤ 2 → r ≡ 0 → OfBars r alpha M 8 0
+  above : natAbs alpha ≤ 2 → 2 ^ 62 < r → OfBars r alpha M 3 0
+  few : natAbs alpha ≤ 2 → Between 1 (2 ^ 62) r → M < 10 → OfBars r alpha M 1 0
+  many : natAbs alpha ≤ 2 → Between 1 (2 ^ 62) r → 32767 < M → OfBars r alpha M 2 0
+
+-- ---- the running meter
+
+-- it does not hold together
+pub data Broken (x : Meter) : Type 0 where
+  factor : Outside 1 10922 (x .m) → Broken x
+  accepted : 32768 < x .n → Broken x
+  window : x .m * 2 ^ 42 < natAbs (x .window) → Broken x
+  high-of-a : 2 ^ 62 ≤ x .a .hi → Broken x
+  high-of-b : 2 ^ 62 ≤ x .b .hi → Broken x
+
+-- the same for a sample call, with its ring: sample number k lies in slot k mod 3m
+pub data BrokenWith (x : Meter) (ring : List ℤ) : Type 0 where
+  meter : Broken x → BrokenWith x ring
+  short : length ring < 3 * x .m → BrokenWith x ring
+  once : 2 * x .m ≤ x .n → OutOfRange ring ((x .n - x .m) % (3 * x .m)) → BrokenWith x ring
+  twice : 2 * x .m ≤ x .n → OutOfRange ring ((x .n - 2 * x .m) % (3 * x .m)) → BrokenWith x ring
+  thrice : 3 * x .m ≤ x .n → OutOfRange ring ((x .n - 3 * x .m) % (3 * x .m)) → BrokenWith x ring
+
+pub data OfStart (m : ℕ) (ring : List ℤ) : ℕ → ℕ → Type 0 where
+  factor : Outside 1 10922 m → OfStart m ring 5 0
+  short : Between 1 10922 m → length ring < 3 * m → OfStart m ring 6 0
+
+pub data OfSample (x : Meter) (ring : List ℤ) (v : ℤ) : ℕ → ℕ → Type 0 where
+  broken : BrokenWith x ring → OfSample x ring v 7 0
+  many : (BrokenWith x ring → ⊥) → x .n ≡ 32768 → OfSample x ring v 2 0
+  range : (BrokenWith x ring → ⊥) → x .n < 32768 → 2 ^ 40 < natAbs v → OfSample x ring v 3 0
+
+pub data OfReport (x : Meter) : ℕ → ℕ → Type 0 where
+  broken : Broken x → OfReport x 7 0
+
+-- ---- the record file, of kind 0 or 1
+
+abbrev pub TooMany : ℕ → ℕ → Type 0
+TooMany kind count = ((kind ≡ 0) × (32768 < count)) ⊎ ((kind ≡ 1) × (32767 < count))
+
+abbrev pub FarValue : ℕ → ℤ → Type 0
+FarValue kind z = ((kind ≡ 0) × (2 ^ 40 < natAbs z)) ⊎ ((kind ≡ 1) × (2 ^ 41 < natAbs z))
+
+-- a byte b at place k of the header is right: "PHR", version 1 in two bytes, the kind; a count's bytes always are
+abbrev pub Right : ℕ → ℕ → Type 0
+Right k b = (k ≡ 0 → b ≡ 0x50) × (k ≡ 1 → b ≡ 0x48) × (k ≡ 2 → b ≡ 0x52) × (k ≡ 3 → b ≡ 1) × (k ≡ 4 → b ≡ 0) × (k ≡ 5 → b ≤ 1)
+
+module _ (bytes : List ℕ) (room : ℕ) where
+  abbrev pub byte : ℕ → ℕ
+  byte k = getD bytes k 0
+
+  abbrev pub count : ℕ
+  count = byte 6 + 256 * byte 7
+
+  abbrev pub Wrong : ℕ → Type 0
+  Wrong k = Right k (byte k) → ⊥
+
+  pub data OfHeader : ℕ → ℕ → Type 0 where
+    wrong : {i : ℕ} → First (length bytes) Wrong i → OfHeader 9 i
+    short : None (length bytes) Wrong → length bytes < 8 → OfHeader 9 (length bytes)
+    many : None (length bytes) Wrong → 8 ≤ length bytes → TooMany (byte 5) count → OfHeader 2 0
+
+  pub data OfReading : ℕ → ℕ → Type 0 where
+    header : {n p : ℕ} → OfHeader n p → OfReading n p
+    too-short : NoRow OfHeader → length bytes < 8 + 8 * count → OfReading 9 (length bytes)
+    too-long : NoRow OfHeader → 8 + 8 * count < length bytes → OfReading 9 (8 + 8 * count)
+    no-room : NoRow OfHeader → length bytes ≡ 8 + 8 * count → room < count → OfReading 6 0
+    range : {i : ℕ} → NoRow OfHeader → length bytes ≡ 8 + 8 * count → count ≤ room → First count (λ k. FarValue (byte 5) (valueAt bytes (8 + 8 * k))) i → OfReading 3 i
+
+module _ (kind : ℕ) (values : List ℤ) (room : ℕ) where
+  pub data OfWriting : ℕ → ℕ → Type 0 where
+    no-kind : 1 < kind → OfWriting 9 5
+    many : TooMany kind (length values) → OfWriting 2 0
+    no-room : kind ≤ 1 → (TooMany kind (length values) → ⊥) → room < 8 + 8 * length values → OfWriting 6 0
+    range : {i : ℕ} → kind ≤ 1 → (TooMany kind (length values) → ⊥) → 8 + 8 * length values ≤ room → First (length values) (λ k. FarValue kind (at values k)) i → OfWriting 3 i
