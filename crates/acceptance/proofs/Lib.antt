@@ -1,5 +1,7 @@
 pub mod Grounding
 pub mod RecordGrounds
+pub mod TypeGrounds
+pub mod EntryGrounds
 pub mod Figures
 pub mod NoughtLaws
 pub mod PromiseLaws

@@ -18,6 +18,7 @@ use Rattle.variances.specs.Deviations.{within}
 use Rattle.drift.specs.Drift.{withoutDrift}
 use Rattle.meter.specs.declared.Meter.{Meter}
 use Rattle.phr.specs.Bytes.{valueAt}
+use Rattle.phr.specs.Reading.{kindOf, countOf}
 
 -- ---- what a table says of an answer
 
@@ -203,26 +204,20 @@ abbrev pub Right : ℕ → ℕ → Type 0
 Right k b = (k ≡ 0 → b ≡ 0x50) × (k ≡ 1 → b ≡ 0x48) × (k ≡ 2 → b ≡ 0x52) × (k ≡ 3 → b ≡ 1) × (k ≡ 4 → b ≡ 0) × (k ≡ 5 → b ≤ 1)
 
 module _ (bytes : List ℕ) (room : ℕ) where
-  abbrev pub byte : ℕ → ℕ
-  byte k = getD bytes k 0
-
-  abbrev pub count : ℕ
-  count = byte 6 + 256 * byte 7
-
   abbrev pub Wrong : ℕ → Type 0
-  Wrong k = Right k (byte k) → ⊥
+  Wrong k = Right k (getD bytes k 0) → ⊥
 
   pub data OfHeader : ℕ → ℕ → Type 0 where
     wrong : {i : ℕ} → First (length bytes) Wrong i → OfHeader 9 i
     short : None (length bytes) Wrong → length bytes < 8 → OfHeader 9 (length bytes)
-    many : None (length bytes) Wrong → 8 ≤ length bytes → TooMany (byte 5) count → OfHeader 2 0
+    many : None (length bytes) Wrong → 8 ≤ length bytes → TooMany (kindOf bytes) (countOf bytes) → OfHeader 2 0
 
   pub data OfReading : ℕ → ℕ → Type 0 where
     header : {n p : ℕ} → OfHeader n p → OfReading n p
-    too-short : NoRow OfHeader → length bytes < 8 + 8 * count → OfReading 9 (length bytes)
-    too-long : NoRow OfHeader → 8 + 8 * count < length bytes → OfReading 9 (8 + 8 * count)
-    no-room : NoRow OfHeader → length bytes ≡ 8 + 8 * count → room < count → OfReading 6 0
-    range : {i : ℕ} → NoRow OfHeader → length bytes ≡ 8 + 8 * count → count ≤ room → First count (λ k. FarValue (byte 5) (valueAt bytes (8 + 8 * k))) i → OfReading 3 i
+    too-short : NoRow OfHeader → length bytes < 8 + 8 * countOf bytes → OfReading 9 (length bytes)
+    too-long : NoRow OfHeader → 8 + 8 * countOf bytes < length bytes → OfReading 9 (8 + 8 * countOf bytes)
+    no-room : NoRow OfHeader → length bytes ≡ 8 + 8 * countOf bytes → room < countOf bytes → OfReading 6 0
+    range : {i : ℕ} → NoRow OfHeader → length bytes ≡ 8 + 8 * countOf bytes → countOf bytes ≤ room → First (countOf bytes) (λ k. FarValue (kindOf bytes) (valueAt bytes (8 + 8 * k))) i → OfReading 3 i
 
 module _ (kind : ℕ) (values : List ℤ) (room : ℕ) where
   pub data OfWriting : ℕ → ℕ → Type 0 where
