@@ -1,5 +1,6 @@
 -- Each answer's number and place are those of the one row of its table of grounds that holds, noughts where none does: of drawn numbers, noise types
 -- and bars, meters and files.
+use denote.Ref.{now}
 use Rattle.laws.specs.Single.{Always}
 use Rattle.noise.specs.Noise.{alphaOf}
 use Rattle.plot.proofs.drawn.drawn_number.Reads as drawn-number
@@ -8,13 +9,20 @@ use Rattle.noise.proofs.noise_type.Reads as noise-type
 use Rattle.noise.proofs.noise_type.Kinds as noise-type-kinds
 use Rattle.noise.proofs.bars.bars.Reads as bars
 use Rattle.noise.proofs.bars.bars.Kinds as bars-kinds
+use Rattle.meter.proofs.Meter.start.Reads as meter-start
+use Rattle.meter.proofs.Meter.start.Kinds as meter-start-kinds
+use Rattle.meter.proofs.Meter.sample.Reads as meter-sample
+use Rattle.meter.proofs.Meter.sample.Kinds as meter-sample-kinds
+use Rattle.meter.proofs.Meter.report.Reads as meter-report
+use Rattle.meter.proofs.Meter.report.Kinds as meter-report-kinds
 use Rattle.ploegelster.specs.Boundary.{toldNoise}
 use Rattle.ploegelster.proofs.drawing.plg_noise_type.Reads as plg-noise-type
 use Rattle.ploegelster.proofs.drawing.plg_noise_type.Kinds as plg-noise-type-kinds
 use Rattle.ploegelster.proofs.drawing.plg_bars.Reads as plg-bars
 use Rattle.ploegelster.proofs.drawing.plg_bars.Kinds as plg-bars-kinds
-use Rattle.acceptance.specs.Grounds.{Grounded, OfDrawn, OfType, OfBars}
+use Rattle.acceptance.specs.Grounds.{Grounded, OfDrawn, OfType, OfBars, OfStart, OfSample, OfReport}
 use Rattle.acceptance.proofs.TypeGrounds.{drawn-grounded, type-grounded, bars-grounded, alpha-bars-grounded}
+use Rattle.acceptance.proofs.MeterGrounds.{start-grounded, sample-grounded, report-grounded}
 
 -- ---- plot
 
@@ -31,6 +39,20 @@ noise-type-grounds κs args z w is = rw is (type-grounded _ _)
 pub bars-grounds : Always 0 bars-kinds.ps bars-kinds.r bars.Post
     (λ κs args z w. let r = args .0 in let type = args .1 .0 in let M = args .1 .1 .0 in Grounded (OfBars r (alphaOf type) M) (z .number) (z .place))
 bars-grounds κs args z w is = rw is (bars-grounded _ _ _)
+
+-- ---- meter
+
+pub meter-start-grounds : Always 1 meter-start-kinds.ps meter-start-kinds.r meter-start.Post
+    (λ κs args z w. let m = args .1 .0 in let ring = now (args .1 .1 .0) in Grounded (OfStart m ring) (z .number) (z .place))
+meter-start-grounds κs args z w is = rw is (start-grounded _ _ _)
+
+pub meter-sample-grounds : Always 1 meter-sample-kinds.ps meter-sample-kinds.r meter-sample.Post
+    (λ κs args z w. let x = args .0 in let ring = now (args .1 .0) in let v = args .1 .1 .0 in Grounded (OfSample x ring v) (z .number) (z .place))
+meter-sample-grounds κs args z w is = rw (is .0) (sample-grounded _ _ _)
+
+pub meter-report-grounds : Always 0 meter-report-kinds.ps meter-report-kinds.r meter-report.Post
+    (λ κs args z w. let x = args .0 in Grounded (OfReport x) (z .number) (z .place))
+meter-report-grounds κs args z w is = rw is (report-grounded _)
 
 -- ---- ploegelster
 

@@ -1,6 +1,7 @@
 pub mod Grounding
 pub mod RecordGrounds
 pub mod TypeGrounds
+pub mod MeterGrounds
 pub mod EntryGrounds
 pub mod Figures
 pub mod NoughtLaws

@@ -1,13 +1,13 @@
 -- The refusals of drawn numbers, noise types and bars agree with their tables of grounds.
 use mathlib.Core.Path.{_≡_, refl}
-use mathlib.Core.Bool.{false, _&&_}
-use mathlib.Core.Logic.{_⊎_, inl, inr}
+use mathlib.Core.Bool.{Bool, true, false, _&&_}
+use mathlib.Core.Logic.{inl, inr}
 use Prim.Native.Nat.{ℕ, zero, suc, _^_, _≤_, _<_}
 use native.Mathlib.Omega.{arith}
 use borrow.Author.Tests.{ltb-true, ltb-false, leb-true, leb-false, lt-leb, not-false, not-true, eqb-true, eqb-false}
 use lib.Dec.{leb}
 use lib.IntN.{ℤ, pos, negsuc, natAbs}
-use Rattle.laws.proofs.Tests.{second-true, second-fails, one-fails}
+use Rattle.laws.proofs.Tests.{second-true, second-fails}
 use Rattle.record.specs.Refusals.{refused, none}
 use Rattle.plot.specs.Drawn.{drawnRefusal, drawnAnswer}
 use Rattle.noise.specs.Noise.{alphaOf, noiseRefusal, noiseAnswer, typeAnswer}
@@ -25,7 +25,12 @@ use Rattle.acceptance.specs.Grounds.{Outside, Grounded, OfDrawn, OfType,
 use Rattle.acceptance.proofs.Grounding.{Decided, Stands, Agrees, something, decide, decide-last, grounded, grounded-answer}
 use Rattle.acceptance.proofs.RecordGrounds.{test-outside}
 
--- ---- outside
+-- ---- tests that fail
+
+-- of two tests one fails: what follows of either
+pub either-fails : (s t : Bool) {A : Type 0} → (s ≡ false → A) → (t ≡ false → A) → (s && t) ≡ false → A
+either-fails true t one other e = other e
+either-fails false t one other e = one e
 
 pub outside-fails : (low high n : ℕ) → Outside low high n → (leb low n && leb n high) ≡ false
 outside-fails low high n (inl below) = rw (lt-leb low n below)
@@ -57,17 +62,10 @@ module _ (r1 r2 : ℕ) where
   type-stands (Grounds.above (inr second)) = (λ e. omega arith, types.second-too-large r1 r2 second)
   type-stands (Grounds.nought none second) = (λ e. omega arith, types.first-nought r1 r2 (omega arith) second none)
 
-  above-either : (leb r1 (2 ^ 62) && leb r2 (2 ^ 62)) ≡ false → (2 ^ 62 < r1) ⊎ (2 ^ 62 < r2)
-  above-either t = by-part (one-fails (leb r1 (2 ^ 62)) _ t)
-    where
-      by-part : (leb r1 (2 ^ 62) ≡ false) ⊎ (leb r2 (2 ^ 62) ≡ false) → (2 ^ 62 < r1) ⊎ (2 ^ 62 < r2)
-      by-part (inl e) = inl (leb-false r1 (2 ^ 62) e)
-      by-part (inr e) = inr (leb-false r2 (2 ^ 62) e)
-
   type-decided : Decided (OfType r1 r2) (noiseRefusal r1 r2)
   unfolding noiseRefusal
   type-decided =
-      decide _ 3 0 (omega arith) (λ t. Grounds.above (above-either (not-true _ t))) _
+      decide _ 3 0 (omega arith) (λ t. Grounds.above (either-fails _ _ (λ e. inl (leb-false r1 (2 ^ 62) e)) (λ e. inr (leb-false r2 (2 ^ 62) e)) (not-true _ t))) _
       (λ f. decide-last _ 8 0 (omega arith)
       (λ t. Grounds.nought (eqb-true r1 0 t) (leb-true r2 (2 ^ 62) (second-true (leb r1 (2 ^ 62)) _ (not-false _ f)))))
 
