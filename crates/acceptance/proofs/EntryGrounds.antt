@@ -1,6 +1,7 @@
 -- Each answer's number and place are those of the one row of its table of grounds that holds, noughts where none does: of drawn numbers, noise types
 -- and bars, meters and files.
 use denote.Ref.{now}
+use lib.ListN.{length}
 use Rattle.laws.specs.Single.{Always}
 use Rattle.noise.specs.Noise.{alphaOf}
 use Rattle.plot.proofs.drawn.drawn_number.Reads as drawn-number
@@ -15,14 +16,19 @@ use Rattle.meter.proofs.Meter.sample.Reads as meter-sample
 use Rattle.meter.proofs.Meter.sample.Kinds as meter-sample-kinds
 use Rattle.meter.proofs.Meter.report.Reads as meter-report
 use Rattle.meter.proofs.Meter.report.Kinds as meter-report-kinds
+use Rattle.phr.proofs.read_file.Reads as read-file
+use Rattle.phr.proofs.read_file.Kinds as read-file-kinds
+use Rattle.phr.proofs.write_file.Reads as write-file
+use Rattle.phr.proofs.write_file.Kinds as write-file-kinds
 use Rattle.ploegelster.specs.Boundary.{toldNoise}
 use Rattle.ploegelster.proofs.drawing.plg_noise_type.Reads as plg-noise-type
 use Rattle.ploegelster.proofs.drawing.plg_noise_type.Kinds as plg-noise-type-kinds
 use Rattle.ploegelster.proofs.drawing.plg_bars.Reads as plg-bars
 use Rattle.ploegelster.proofs.drawing.plg_bars.Kinds as plg-bars-kinds
-use Rattle.acceptance.specs.Grounds.{Grounded, OfDrawn, OfType, OfBars, OfStart, OfSample, OfReport}
+use Rattle.acceptance.specs.Grounds.{Grounded, OfDrawn, OfType, OfBars, OfStart, OfSample, OfReport, OfReading, OfWriting}
 use Rattle.acceptance.proofs.TypeGrounds.{drawn-grounded, type-grounded, bars-grounded, alpha-bars-grounded}
 use Rattle.acceptance.proofs.MeterGrounds.{start-grounded, sample-grounded, report-grounded}
+use Rattle.acceptance.proofs.FileGrounds.{reading-grounded, writing-grounded}
 
 -- ---- plot
 
@@ -53,6 +59,17 @@ meter-sample-grounds κs args z w is = rw (is .0) (sample-grounded _ _ _)
 pub meter-report-grounds : Always 0 meter-report-kinds.ps meter-report-kinds.r meter-report.Post
     (λ κs args z w. let x = args .0 in Grounded (OfReport x) (z .number) (z .place))
 meter-report-grounds κs args z w is = rw is (report-grounded _)
+
+-- ---- phr
+
+pub read-file-grounds : Always 2 read-file-kinds.ps read-file-kinds.r read-file.Post
+    (λ κs args z w. let bytes = now (args .0) in let buffer = now (args .1 .0) in Grounded (OfReading bytes (length buffer)) (z .number) (z .place))
+read-file-grounds κs args z w is = rw (is .0) (reading-grounded _ _)
+
+pub write-file-grounds : Always 2 write-file-kinds.ps write-file-kinds.r write-file.Post
+    (λ κs args z w. let kind = args .0 in let values = now (args .1 .0) in let buffer = now (args .1 .1 .0) in
+    Grounded (OfWriting kind values (length buffer)) (z .number) (z .place))
+write-file-grounds κs args z w is = rw (is .0) (writing-grounded _ _ _)
 
 -- ---- ploegelster
 

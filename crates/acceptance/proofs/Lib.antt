@@ -2,6 +2,7 @@ pub mod Grounding
 pub mod RecordGrounds
 pub mod TypeGrounds
 pub mod MeterGrounds
+pub mod FileGrounds
 pub mod EntryGrounds
 pub mod Figures
 pub mod NoughtLaws

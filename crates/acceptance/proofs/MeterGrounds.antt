@@ -20,17 +20,9 @@ use Rattle.acceptance.specs.Grounds
 use Rattle.acceptance.specs.Grounds.{Grounded, Broken, BrokenWith, OfStart, OfSample, OfReport}
 use Rattle.acceptance.proofs.Grounding.{Decided, Stands, Agrees, decide, decide-last, grounded, grounded-answer}
 use Rattle.acceptance.proofs.RecordGrounds.{test-between, test-outside}
-use Rattle.acceptance.proofs.TypeGrounds.{either-fails, outside-fails}
+use Rattle.acceptance.proofs.TypeGrounds.{never-true, never-false, either-fails, outside-fails}
 
 -- ---- tests
-
-never-true : (t : Bool) → (t ≡ true → ⊥) → t ≡ false
-never-true true never = absurd (never refl)
-never-true false never = refl
-
-never-false : (t : Bool) → (t ≡ false → ⊥) → t ≡ true
-never-false true never = refl
-never-false false never = absurd (never refl)
 
 -- a test that is made only where another holds
 due-fails : (due t : Bool) → cond due t true ≡ false → (due ≡ true) × (t ≡ false)

@@ -8,7 +8,7 @@ use borrow.Author.Tests.{ltb-true, ltb-false, leb-true, leb-false, lt-leb, not-f
 use lib.Dec.{leb}
 use lib.IntN.{ℤ, pos, negsuc, natAbs}
 use Rattle.laws.proofs.Tests.{second-true, second-fails}
-use Rattle.record.specs.Refusals.{refused, none}
+use Rattle.record.specs.Refusals.{refused}
 use Rattle.plot.specs.Drawn.{drawnRefusal, drawnAnswer}
 use Rattle.noise.specs.Noise.{alphaOf, noiseRefusal, noiseAnswer, typeAnswer}
 use Rattle.noise.specs.Bars.{barsRefusal, barsAnswer}
@@ -25,7 +25,15 @@ use Rattle.acceptance.specs.Grounds.{Outside, Grounded, OfDrawn, OfType,
 use Rattle.acceptance.proofs.Grounding.{Decided, Stands, Agrees, something, decide, decide-last, grounded, grounded-answer}
 use Rattle.acceptance.proofs.RecordGrounds.{test-outside}
 
--- ---- tests that fail
+-- ---- tests
+
+pub never-true : (t : Bool) → (t ≡ true → ⊥) → t ≡ false
+never-true true never = absurd (never refl)
+never-true false never = refl
+
+pub never-false : (t : Bool) → (t ≡ false → ⊥) → t ≡ true
+never-false true never = refl
+never-false false never = absurd (never refl)
 
 -- of two tests one fails: what follows of either
 pub either-fails : (s t : Bool) {A : Type 0} → (s ≡ false → A) → (t ≡ false → A) → (s && t) ≡ false → A
@@ -60,12 +68,13 @@ module _ (r1 r2 : ℕ) where
   type-stands : {number place : ℕ} → OfType r1 r2 number place → Stands number place (noiseRefusal r1 r2)
   type-stands (Grounds.above (inl first)) = (λ e. omega arith, types.first-too-large r1 r2 first)
   type-stands (Grounds.above (inr second)) = (λ e. omega arith, types.second-too-large r1 r2 second)
-  type-stands (Grounds.nought none second) = (λ e. omega arith, types.first-nought r1 r2 (omega arith) second none)
+  type-stands (Grounds.nought first second) = (λ e. omega arith, types.first-nought r1 r2 (omega arith) second first)
 
   type-decided : Decided (OfType r1 r2) (noiseRefusal r1 r2)
   unfolding noiseRefusal
   type-decided =
-      decide _ 3 0 (omega arith) (λ t. Grounds.above (either-fails _ _ (λ e. inl (leb-false r1 (2 ^ 62) e)) (λ e. inr (leb-false r2 (2 ^ 62) e)) (not-true _ t))) _
+      decide _ 3 0 (omega arith)
+      (λ t. Grounds.above (either-fails _ _ (λ e. inl (leb-false r1 (2 ^ 62) e)) (λ e. inr (leb-false r2 (2 ^ 62) e)) (not-true _ t))) _
       (λ f. decide-last _ 8 0 (omega arith)
       (λ t. Grounds.nought (eqb-true r1 0 t) (leb-true r2 (2 ^ 62) (second-true (leb r1 (2 ^ 62)) _ (not-false _ f)))))
 
@@ -99,7 +108,7 @@ module _ (r : ℕ) (alpha : ℤ) (m : ℕ) where
   module _ (within : natAbs alpha ≤ 2) where
     bars-stand : {number place : ℕ} → OfBars r alpha m number place → Stands number place (barsRefusal r m)
     bars-stand (Grounds.no-type h) = absurd (omega arith)
-    bars-stand (Grounds.nought h none) = (λ e. omega arith, bar.deviation-nought r m none)
+    bars-stand (Grounds.nought h is) = (λ e. omega arith, bar.deviation-nought r m is)
     bars-stand (Grounds.above h large) = (λ e. omega arith, bar.deviation-too-large r m (λ e. omega arith) large)
     bars-stand (Grounds.few h between few) = (λ e. omega arith, bar.too-few r m (λ e. omega arith) (between .1) few)
     bars-stand (Grounds.many h between many) = (λ e. omega arith, bar.too-many r m (λ e. omega arith) (between .1) (omega arith) many)
