@@ -100,7 +100,7 @@ module _ (r : ℕ) (alpha : ℤ) (m : ℕ) where
     beyond-agrees : Agrees (OfBars r alpha m) (refused 3 0)
     beyond-agrees = record { stands = beyond-stands; decided = something (λ e. omega arith) (Grounds.no-type beyond) }
 
-    pub no-type-grounded : Grounded (OfBars r alpha m) (noSuchType .number) (noSuchType .place)
+    no-type-grounded : Grounded (OfBars r alpha m) (noSuchType .number) (noSuchType .place)
     unfolding noSuchType
     no-type-grounded = grounded beyond-agrees refl refl
 
@@ -126,7 +126,7 @@ module _ (r : ℕ) (alpha : ℤ) (m : ℕ) where
     bars-agree : Agrees (OfBars r alpha m) (barsRefusal r m)
     bars-agree = record { stands = bars-stand; decided = bars-decided }
 
-    pub bars-within-grounded : (t : Noise) → Grounded (OfBars r alpha m) (barsAnswer r t m .number) (barsAnswer r t m .place)
+    bars-within-grounded : (t : Noise) → Grounded (OfBars r alpha m) (barsAnswer r t m .number) (barsAnswer r t m .place)
     unfolding barsAnswer
     bars-within-grounded t = grounded-answer bars-agree (λ (a : BarsAnswer). a .number) (λ a. a .place) _ _ (refl, refl) (refl, refl)
 
