@@ -1,23 +1,54 @@
 -- The refusals of records agree with their tables of grounds.
-use mathlib.Core.Path.{_≡_, refl, sym, ap, _∙_}
-use mathlib.Core.Bool.{Bool, true, false, not, _&&_}
+use mathlib.Core.Path.{_≡_, refl, sym, subst, _∙_}
+use mathlib.Core.Bool.{Bool, true, false, not, _&&_, true≢false}
 use mathlib.Core.List.{List}
 use mathlib.Core.Logic.{_⊎_, inl, inr}
 use Prim.Native.Nat.{ℕ, _+_, _*_, _^_, _≤_, _<_}
+use native.Mathlib.Nat.{add-zero}
 use native.Mathlib.Omega.{arith}
-use borrow.Author.Tests.{ltb-true, ltb-false, leb-true, leb-false, not-false, not-true}
+use borrow.Author.Tests.{ltb-true, ltb-false, lt-ltb, leb-true, leb-false, lt-leb, not-false, not-true}
 use lib.Dec.{leb, ltb}
 use lib.IntN.{ℤ, pos, natAbs}
-use lib.ListN.{length}
+use lib.ListN.{length, getD}
 use Rattle.laws.specs.Lists.{at, firstFailing}
 use Rattle.laws.proofs.Tests.{first-true, second-true, one-fails}
-use Rattle.laws.proofs.ListLaws.{first-failing-within, fails-there, passes-before}
-use Rattle.record.specs.Refusals.{inRange, rangeRefusal, sizeRefusal, recordRefusal}
+use Rattle.laws.proofs.ListLaws.{fails-there, passes-before, first-failing-is}
+use Rattle.record.specs.Refusals.{refusedIf, inRange, rangeRefusal, sizeRefusal, recordRefusal}
 use Rattle.record.specs.declared.Demand.{Demand}
-use Rattle.record.proofs.RefusalLaws.{factor-nought, factor-too-large, too-many, too-few, out-of-range}
+use Rattle.record.specs.declared.Refusal.{Refusal}
+use Rattle.record.proofs.RefusalLaws.{factor-nought, factor-too-large, too-many, too-few}
+use Rattle.sums.specs.Answers.{sumAnswer}
+use Rattle.sums.specs.declared.SumAnswer.{SumAnswer}
+use Rattle.sums.proofs.AnswerLaws.{givenSum, noSum}
 use Rattle.acceptance.specs.Grounds
-use Rattle.acceptance.specs.Grounds.{Between, Outside, First, OutOfRange, OfRange, OfSize, OfRecord}
-use Rattle.acceptance.proofs.Grounding.{Decided, Stands, Agrees, decide, decide-last, decide-after, decided-by}
+use Rattle.acceptance.specs.Grounds.{Grounded, Between, Outside, First, OutOfRange, OfRange, OfSize, OfRecord}
+use Rattle.acceptance.proofs.Grounding.{Decided, Stands, Agrees, decide, decide-last, decide-after, decided-by, stands-first, stands-later, rowless-none, none-rowless, grounded-answer}
+
+-- ---- the first that is bad: the first entry of a list that fails a test
+
+module _ {A : Type 0} (test : A → Bool) (z : A) (xs : List A) {n : ℕ} (whole : length xs ≡ n) {Bad : ℕ → Type 0}
+    (bad : (k : ℕ) → k < n → test (getD xs k z) ≡ false → Bad k) (fails : (k : ℕ) → k < n → Bad k → test (getD xs k z) ≡ false) where
+  passes : (t : Bool) → (t ≡ false → ⊥) → t ≡ true
+  passes true other = refl
+  passes false other = absurd (other refl)
+
+  pub first-is : {i : ℕ} → First n Bad i → firstFailing test xs ≡ i
+  first-is {i} first =
+      first-failing-is test z xs i (omega (arith, first .inside, whole))
+      (λ k h. passes _ (λ e. first .before k h (bad k (omega (arith, first .inside)) e)))
+      (fails i (first .inside) (first .bad))
+
+  pub first-there : ltb (firstFailing test xs) n ≡ true → First n Bad (firstFailing test xs)
+  first-there t =
+      let inside : firstFailing test xs < n = ltb-true _ n t in record {
+        inside = inside;
+        bad = bad _ inside (fails-there test z xs (omega (arith, whole)));
+        before = λ k h b. true≢false (sym (passes-before test z xs k h) ∙ fails k (omega arith) b);
+      }
+
+  pub first-stands : {i number : ℕ} → 0 < number → First n Bad i →
+      Stands number i (refusedIf (ltb (firstFailing test xs) n) number (firstFailing test xs))
+  first-stands {i} numbered first = (λ e. omega arith, simp (first-is first, lt-ltb i n (first .inside)))
 
 -- ---- between and outside
 
@@ -54,3 +85,66 @@ module _ (d : Demand) (m n : ℕ) where
 
   pub size-agrees : Agrees (OfSize (d .largest) fewest m n) (sizeRefusal d m n)
   size-agrees = record { stands = size-stands; decided = size-decided }
+
+-- ---- 3 at the first out of range
+
+module _ (xs : List ℤ) where
+  outside-fails : (k : ℕ) → OutOfRange xs k → inRange (at xs k) ≡ false
+  unfolding inRange
+  outside-fails k above = lt-leb (natAbs (at xs k)) (2 ^ 40) above
+
+  failing-outside : (k : ℕ) → inRange (at xs k) ≡ false → OutOfRange xs k
+  unfolding inRange
+  failing-outside k e = leb-false (natAbs (at xs k)) (2 ^ 40) e
+
+  module _ {n : ℕ} (whole : length xs ≡ n) where
+    pub first-outside : ltb (firstFailing inRange xs) n ≡ true → First n (OutOfRange xs) (firstFailing inRange xs)
+    first-outside = first-there inRange (pos 0) xs whole (λ k h. failing-outside k) (λ k h. outside-fails k)
+
+    pub outside-stands : {i : ℕ} → First n (OutOfRange xs) i → Stands 3 i (refusedIf (ltb (firstFailing inRange xs) n) 3 (firstFailing inRange xs))
+    outside-stands = first-stands inRange (pos 0) xs whole (λ k h. failing-outside k) (λ k h. outside-fails k) (omega arith)
+
+  pub range-stands : {i : ℕ} → First (length xs) (OutOfRange xs) i → Stands 3 i (rangeRefusal xs)
+  unfolding rangeRefusal
+  range-stands = outside-stands refl
+
+  pub range-decides : {Row : ℕ → ℕ → Type 0} → ((i : ℕ) → First (length xs) (OutOfRange xs) i → Row 3 i) → Decided Row (rangeRefusal xs)
+  unfolding rangeRefusal
+  range-decides row = decide-last _ 3 _ (omega arith) (λ t. row _ (first-outside refl t))
+
+  pub range-agrees : Agrees (OfRange xs) (rangeRefusal xs)
+  range-agrees = record { stands = stands; decided = range-decides (λ i. Grounds.range) }
+    where
+      stands : {n p : ℕ} → OfRange xs n p → Stands n p (rangeRefusal xs)
+      stands (Grounds.range first) = range-stands first
+
+-- ---- 5, 2, 1, then 3
+
+module _ (d : Demand) (m : ℕ) (xs : List ℤ) where
+  abbrev sized : Agrees (OfSize (d .largest) (d .each * m + d .besides) m (length xs)) (sizeRefusal d m (length xs))
+  sized = size-agrees d m (length xs)
+
+  pub record-agrees : Agrees (OfRecord (d .largest) (d .each * m + d .besides) m xs) (recordRefusal d m xs)
+  unfolding recordRefusal
+  record-agrees = record {
+    stands = stands;
+    decided = decide-after _ _ (decided-by (λ n p. Grounds.size) (sized .decided)) (λ clear. range-decides xs (λ i. Grounds.range (none-rowless sized (rw clear))));
+  }
+    where
+      stands : {n p : ℕ} → OfRecord (d .largest) (d .each * m + d .besides) m xs n p → Stands n p (recordRefusal d m xs)
+      stands (Grounds.size row) = stands-first _ _ (sized .stands row)
+      stands (Grounds.range rowless first) = stands-later _ _ (rowless-none sized rowless) (range-stands xs first)
+
+-- a demand of so many samples for each of the factor, and none besides
+module _ (largest each m : ℕ) (xs : List ℤ) where
+  abbrev multiple : Demand
+  multiple = record { largest = largest; each = each; besides = 0 }
+
+  pub multiple-agrees : Agrees (OfRecord largest (each * m) m xs) (recordRefusal multiple m xs)
+  multiple-agrees = subst (λ (fewest : ℕ). Agrees (OfRecord largest fewest m xs) (recordRefusal multiple m xs)) (add-zero (each * m)) (record-agrees multiple m xs)
+
+-- ---- a sum's answer
+
+pub sum-grounded : {Row : ℕ → ℕ → Type 0} {r : Refusal} → Agrees Row r → (s count : ℕ) → Grounded Row (sumAnswer r s count .number) (sumAnswer r s count .place)
+unfolding sumAnswer
+sum-grounded agrees s count = grounded-answer agrees (λ (z : SumAnswer). z .number) (λ (z : SumAnswer). z .place) (givenSum s count) (noSum _) (refl, refl) (refl, refl)
