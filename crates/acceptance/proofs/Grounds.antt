@@ -1,7 +1,9 @@
 -- The ground of every refusal: for each public function that refuses, whatever its own contract allows is grounded (specs/Grounds.antt) in its table.
 use Prim.Native.Nat.{_+_, _*_}
+use native.Mathlib.Omega.{arith}
 use denote.Ref.{now}
 use Rattle.laws.specs.Single.{Always}
+use Rattle.wide.specs.Wide.{value}
 use Rattle.record.proofs.range_refusal.Reads as range-refusal
 use Rattle.record.proofs.range_refusal.Kinds as range-refusal-kinds
 use Rattle.record.proofs.size_refusal.Reads as size-refusal
@@ -13,9 +15,25 @@ use Rattle.sums.proofs.allan_sum.Reads as allan-sum
 use Rattle.sums.proofs.allan_sum.Kinds as allan-sum-kinds
 use Rattle.sums.proofs.modified_sum.Reads as modified-sum
 use Rattle.sums.proofs.modified_sum.Kinds as modified-sum-kinds
-use Rattle.acceptance.specs.Grounds.{Grounded, OfRange, OfSize, OfRecord}
+use Rattle.sums.specs.Published.{allanDenominator, timeDenominator}
+use Rattle.variances.specs.Answers.{allanFractionAnswer, timeFractionAnswer, allanDeviationAnswer, timeDeviationAnswer}
+use Rattle.variances.proofs.allan_fraction.Reads as allan-fraction
+use Rattle.variances.proofs.allan_fraction.Kinds as allan-fraction-kinds
+use Rattle.variances.proofs.time_fraction.Reads as time-fraction
+use Rattle.variances.proofs.time_fraction.Kinds as time-fraction-kinds
+use Rattle.variances.proofs.allan_deviation.Reads as allan-deviation
+use Rattle.variances.proofs.allan_deviation.Kinds as allan-deviation-kinds
+use Rattle.variances.proofs.time_deviation.Reads as time-deviation
+use Rattle.variances.proofs.time_deviation.Kinds as time-deviation-kinds
+use Rattle.plot.specs.Dots.{allanDotAnswer, timeDotAnswer}
+use Rattle.plot.proofs.dots.allan_dot.Reads as allan-dot
+use Rattle.plot.proofs.dots.allan_dot.Kinds as allan-dot-kinds
+use Rattle.plot.proofs.dots.time_dot.Reads as time-dot
+use Rattle.plot.proofs.dots.time_dot.Kinds as time-dot-kinds
+use Rattle.acceptance.specs.Grounds.{Grounded, OfRange, OfSize, OfRecord, OfFraction, OfDeviation, OfDot}
 use Rattle.acceptance.proofs.Grounding.{refusal-grounded}
 use Rattle.acceptance.proofs.RecordGrounds.{size-agrees, range-agrees, record-agrees, multiple-agrees, sum-grounded}
+use Rattle.acceptance.proofs.FigureGrounds.{fraction-agrees, deviation-agrees, fraction-grounded, deviation-grounded, dot-grounded}
 
 -- ---- record
 
@@ -44,3 +62,41 @@ pub modified-sum-grounds : Always 1 modified-sum-kinds.ps modified-sum-kinds.r m
     (λ κs args z w. let xs = now (args .0) in let m = args .1 .0 in Grounded (OfRecord 10922 (3 * m) m xs) (z .number) (z .place))
 unfolding modifiedSumAnswer
 modified-sum-grounds κs args z w is = rw is (sum-grounded (multiple-agrees 10922 3 _ _) _ _)
+
+-- ---- variances
+
+pub allan-fraction-grounds : Always 0 allan-fraction-kinds.ps allan-fraction-kinds.r allan-fraction.Post
+    (λ κs args z w. let sum = value (args .0) in let m = args .1 .0 in let count = args .1 .1 .0 in Grounded (OfFraction sum m count) (z .number) (z .place))
+unfolding allanFractionAnswer
+allan-fraction-grounds κs args z w is = rw is (fraction-grounded (fraction-agrees _ _ _) _)
+
+pub time-fraction-grounds : Always 0 time-fraction-kinds.ps time-fraction-kinds.r time-fraction.Post
+    (λ κs args z w. let sum = value (args .0) in let m = args .1 .0 in let count = args .1 .1 .0 in Grounded (OfFraction sum m count) (z .number) (z .place))
+unfolding timeFractionAnswer
+time-fraction-grounds κs args z w is = rw is (fraction-grounded (fraction-agrees _ _ _) _)
+
+pub allan-deviation-grounds : Always 0 allan-deviation-kinds.ps allan-deviation-kinds.r allan-deviation.Post
+    (λ κs args z w. let sum = value (args .0) in let m = args .1 .0 in let count = args .1 .1 .0 in
+    Grounded (OfDeviation sum m count (2 * (m * m) * count)) (z .number) (z .place))
+unfolding allanDeviationAnswer allanDenominator
+allan-deviation-grounds κs args z w is = rw is (deviation-grounded (deviation-agrees _ _ _ 2 (omega arith)) _)
+
+pub time-deviation-grounds : Always 0 time-deviation-kinds.ps time-deviation-kinds.r time-deviation.Post
+    (λ κs args z w. let sum = value (args .0) in let m = args .1 .0 in let count = args .1 .1 .0 in
+    Grounded (OfDeviation sum m count (6 * (m * m) * count)) (z .number) (z .place))
+unfolding timeDeviationAnswer timeDenominator
+time-deviation-grounds κs args z w is = rw is (deviation-grounded (deviation-agrees _ _ _ 6 (omega arith)) _)
+
+-- ---- plot
+
+pub allan-dot-grounds : Always 0 allan-dot-kinds.ps allan-dot-kinds.r allan-dot.Post
+    (λ κs args z w. let sum = value (args .0) in let m = args .1 .0 in let count = args .1 .1 .0 in
+    Grounded (OfDot sum m count (2 * (m * m) * count)) (z .number) (z .place))
+unfolding allanDotAnswer allanDeviationAnswer allanDenominator
+allan-dot-grounds κs args z w is = rw is (dot-grounded _ _ _ _ (deviation-agrees _ _ _ 2 (omega arith)) _)
+
+pub time-dot-grounds : Always 0 time-dot-kinds.ps time-dot-kinds.r time-dot.Post
+    (λ κs args z w. let sum = value (args .0) in let m = args .1 .0 in let count = args .1 .1 .0 in
+    Grounded (OfDot sum m count (6 * (m * m) * count)) (z .number) (z .place))
+unfolding timeDotAnswer timeDeviationAnswer timeDenominator
+time-dot-grounds κs args z w is = rw is (dot-grounded _ _ _ _ (deviation-agrees _ _ _ 6 (omega arith)) _)

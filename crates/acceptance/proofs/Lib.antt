@@ -1,5 +1,6 @@
 pub mod Grounding
 pub mod RecordGrounds
+pub mod FigureGrounds
 pub mod Grounds
 pub mod Figures
 pub mod NoughtLaws
