@@ -2,6 +2,7 @@
 use Prim.Native.Nat.{_+_, _*_}
 use native.Mathlib.Omega.{arith}
 use denote.Ref.{now}
+use lib.ListN.{length}
 use Rattle.laws.specs.Single.{Always}
 use Rattle.wide.specs.Wide.{value}
 use Rattle.record.proofs.range_refusal.Reads as range-refusal
@@ -30,10 +31,19 @@ use Rattle.plot.proofs.dots.allan_dot.Reads as allan-dot
 use Rattle.plot.proofs.dots.allan_dot.Kinds as allan-dot-kinds
 use Rattle.plot.proofs.dots.time_dot.Reads as time-dot
 use Rattle.plot.proofs.dots.time_dot.Kinds as time-dot-kinds
-use Rattle.acceptance.specs.Grounds.{Grounded, OfRange, OfSize, OfRecord, OfFraction, OfDeviation, OfDot}
+use Rattle.frequency.proofs.phase_from_frequency.Reads as phase-from-frequency
+use Rattle.frequency.proofs.phase_from_frequency.Kinds as phase-from-frequency-kinds
+use Rattle.frequency.proofs.frequency_from_phase.Reads as frequency-from-phase
+use Rattle.frequency.proofs.frequency_from_phase.Kinds as frequency-from-phase-kinds
+use Rattle.drift.proofs.drift_figure.Reads as drift-figure
+use Rattle.drift.proofs.drift_figure.Kinds as drift-figure-kinds
+use Rattle.drift.proofs.remove_drift.Reads as remove-drift
+use Rattle.drift.proofs.remove_drift.Kinds as remove-drift-kinds
+use Rattle.acceptance.specs.Grounds.{Grounded, OfRange, OfSize, OfRecord, OfFraction, OfDeviation, OfDot, OfPhases, OfDifferences, OfDrift, OfRemoval}
 use Rattle.acceptance.proofs.Grounding.{refusal-grounded}
 use Rattle.acceptance.proofs.RecordGrounds.{size-agrees, range-agrees, record-agrees, multiple-agrees, sum-grounded}
 use Rattle.acceptance.proofs.FigureGrounds.{fraction-agrees, deviation-agrees, fraction-grounded, deviation-grounded, dot-grounded}
+use Rattle.acceptance.proofs.BufferGrounds.{phases-agree, differences-agree, removal-agrees, count-grounded, drift-grounded}
 
 -- ---- record
 
@@ -100,3 +110,23 @@ pub time-dot-grounds : Always 0 time-dot-kinds.ps time-dot-kinds.r time-dot.Post
     Grounded (OfDot sum m count (6 * (m * m) * count)) (z .number) (z .place))
 unfolding timeDotAnswer timeDeviationAnswer timeDenominator
 time-dot-grounds κs args z w is = rw is (dot-grounded _ _ _ _ (deviation-agrees _ _ _ 6 (omega arith)) _)
+
+-- ---- frequency
+
+pub phase-from-frequency-grounds : Always 2 phase-from-frequency-kinds.ps phase-from-frequency-kinds.r phase-from-frequency.Post
+    (λ κs args z w. let ys = now (args .0) in let buffer = now (args .1 .0) in Grounded (OfPhases ys (length buffer)) (z .number) (z .place))
+phase-from-frequency-grounds κs args z w is = rw (is .0) (count-grounded (phases-agree _ _) _)
+
+pub frequency-from-phase-grounds : Always 2 frequency-from-phase-kinds.ps frequency-from-phase-kinds.r frequency-from-phase.Post
+    (λ κs args z w. let xs = now (args .0) in let buffer = now (args .1 .0) in Grounded (OfDifferences xs (length buffer)) (z .number) (z .place))
+frequency-from-phase-grounds κs args z w is = rw (is .0) (count-grounded (differences-agree _ _) _)
+
+-- ---- drift
+
+pub drift-figure-grounds : Always 1 drift-figure-kinds.ps drift-figure-kinds.r drift-figure.Post
+    (λ κs args z w. let xs = now (args .0) in Grounded (OfDrift xs) (z .number) (z .place))
+drift-figure-grounds κs args z w is = rw is (drift-grounded _)
+
+pub remove-drift-grounds : Always 2 remove-drift-kinds.ps remove-drift-kinds.r remove-drift.Post
+    (λ κs args z w. let xs = now (args .0) in let buffer = now (args .1 .0) in Grounded (OfRemoval xs (length buffer)) (z .number) (z .place))
+remove-drift-grounds κs args z w is = rw (is .0) (count-grounded (removal-agrees _ _) _)

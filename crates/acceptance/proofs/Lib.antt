@@ -1,6 +1,7 @@
 pub mod Grounding
 pub mod RecordGrounds
 pub mod FigureGrounds
+pub mod BufferGrounds
 pub mod Grounds
 pub mod Figures
 pub mod NoughtLaws

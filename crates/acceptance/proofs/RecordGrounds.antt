@@ -1,27 +1,27 @@
 -- The refusals of records agree with their tables of grounds.
-use mathlib.Core.Path.{_≡_, refl, sym, subst, _∙_}
+use mathlib.Core.Path.{_≡_, refl, sym, ap, subst, _∙_}
 use mathlib.Core.Bool.{Bool, true, false, not, _&&_, true≢false}
 use mathlib.Core.List.{List}
 use mathlib.Core.Logic.{_⊎_, inl, inr}
 use Prim.Native.Nat.{ℕ, _+_, _*_, _^_, _≤_, _<_}
 use native.Mathlib.Nat.{add-zero}
 use native.Mathlib.Omega.{arith}
-use borrow.Author.Tests.{ltb-true, ltb-false, lt-ltb, leb-true, leb-false, lt-leb, not-false, not-true}
+use borrow.Author.Tests.{ltb-true, ltb-false, leb-true, leb-false, lt-leb, not-false, not-true}
 use lib.Dec.{leb, ltb}
 use lib.IntN.{ℤ, pos, natAbs}
 use lib.ListN.{length, getD}
 use Rattle.laws.specs.Lists.{at, firstFailing}
 use Rattle.laws.proofs.Tests.{first-true, second-true, one-fails}
 use Rattle.laws.proofs.ListLaws.{fails-there, passes-before, first-failing-is}
-use Rattle.record.specs.Refusals.{refusedIf, inRange, rangeRefusal, sizeRefusal, recordRefusal}
+use Rattle.record.specs.Refusals.{none, inRange, rangeRefusal, sizeRefusal, recordRefusal}
 use Rattle.record.specs.declared.Demand.{Demand}
 use Rattle.record.specs.declared.Refusal.{Refusal}
-use Rattle.record.proofs.RefusalLaws.{factor-nought, factor-too-large, too-many, too-few}
+use Rattle.record.proofs.RefusalLaws.{factor-nought, factor-too-large, too-many, too-few, out-of-range, unrefused-in-range}
 use Rattle.sums.specs.Answers.{sumAnswer}
 use Rattle.sums.specs.declared.SumAnswer.{SumAnswer}
 use Rattle.sums.proofs.AnswerLaws.{givenSum, noSum}
 use Rattle.acceptance.specs.Grounds
-use Rattle.acceptance.specs.Grounds.{Grounded, Between, Outside, First, OutOfRange, OfRange, OfSize, OfRecord}
+use Rattle.acceptance.specs.Grounds.{NoRow, None, Grounded, Between, Outside, First, OutOfRange, OfRange, OfSize, OfRecord}
 use Rattle.acceptance.proofs.Grounding.{Decided, Stands, Agrees, decide, decide-last, decide-after, decided-by, stands-first, stands-later, rowless-none, none-rowless, grounded-answer}
 
 -- ---- the first that is bad: the first entry of a list that fails a test
@@ -45,10 +45,6 @@ module _ {A : Type 0} (test : A → Bool) (z : A) (xs : List A) {n : ℕ} (whole
         bad = bad _ inside (fails-there test z xs (omega (arith, whole)));
         before = λ k h b. true≢false (sym (passes-before test z xs k h) ∙ fails k (omega arith) b);
       }
-
-  pub first-stands : {i number : ℕ} → 0 < number → First n Bad i →
-      Stands number i (refusedIf (ltb (firstFailing test xs) n) number (firstFailing test xs))
-  first-stands {i} numbered first = (λ e. omega arith, simp (first-is first, lt-ltb i n (first .inside)))
 
 -- ---- between and outside
 
@@ -88,35 +84,57 @@ module _ (d : Demand) (m n : ℕ) where
 
 -- ---- 3 at the first out of range
 
+module _ (x : ℤ) where
+  outside-fails : 2 ^ 40 < natAbs x → inRange x ≡ false
+  unfolding inRange
+  outside-fails above = lt-leb (natAbs x) (2 ^ 40) above
+
+  failing-outside : inRange x ≡ false → 2 ^ 40 < natAbs x
+  unfolding inRange
+  failing-outside e = leb-false (natAbs x) (2 ^ 40) e
+
+-- of a list of n entries that are known
+module _ (xs : List ℤ) {n : ℕ} (whole : length xs ≡ n) (entry : ℕ → ℤ) (is : (k : ℕ) → k < n → at xs k ≡ entry k) where
+  abbrev Beyond : ℕ → Type 0
+  Beyond k = 2 ^ 40 < natAbs (entry k)
+
+  beyond : (k : ℕ) → k < n → inRange (at xs k) ≡ false → Beyond k
+  beyond k inside e = failing-outside (entry k) (rw (sym (is k inside)) e)
+
+  beyond-fails : (k : ℕ) → k < n → Beyond k → inRange (at xs k) ≡ false
+  beyond-fails k inside above = rw (is k inside) (outside-fails (entry k) above)
+
+  pub first-outside : ltb (firstFailing inRange xs) n ≡ true → First n Beyond (firstFailing inRange xs)
+  first-outside = first-there inRange (pos 0) xs whole beyond beyond-fails
+
+  pub outside-is : {i : ℕ} → First n Beyond i → firstFailing inRange xs ≡ i
+  outside-is = first-is inRange (pos 0) xs whole beyond beyond-fails
+
+-- of a record
 module _ (xs : List ℤ) where
-  outside-fails : (k : ℕ) → OutOfRange xs k → inRange (at xs k) ≡ false
-  unfolding inRange
-  outside-fails k above = lt-leb (natAbs (at xs k)) (2 ^ 40) above
-
-  failing-outside : (k : ℕ) → inRange (at xs k) ≡ false → OutOfRange xs k
-  unfolding inRange
-  failing-outside k e = leb-false (natAbs (at xs k)) (2 ^ 40) e
-
-  module _ {n : ℕ} (whole : length xs ≡ n) where
-    pub first-outside : ltb (firstFailing inRange xs) n ≡ true → First n (OutOfRange xs) (firstFailing inRange xs)
-    first-outside = first-there inRange (pos 0) xs whole (λ k h. failing-outside k) (λ k h. outside-fails k)
-
-    pub outside-stands : {i : ℕ} → First n (OutOfRange xs) i → Stands 3 i (refusedIf (ltb (firstFailing inRange xs) n) 3 (firstFailing inRange xs))
-    outside-stands = first-stands inRange (pos 0) xs whole (λ k h. failing-outside k) (λ k h. outside-fails k) (omega arith)
-
   pub range-stands : {i : ℕ} → First (length xs) (OutOfRange xs) i → Stands 3 i (rangeRefusal xs)
-  unfolding rangeRefusal
-  range-stands = outside-stands refl
+  range-stands {i} first = (λ e. omega arith, out-of-range xs i (first .inside) (outside-is xs refl (at xs) (λ k h. refl) first))
 
-  pub range-decides : {Row : ℕ → ℕ → Type 0} → ((i : ℕ) → First (length xs) (OutOfRange xs) i → Row 3 i) → Decided Row (rangeRefusal xs)
+  pub range-decided : {Row : ℕ → ℕ → Type 0} → ((i : ℕ) → First (length xs) (OutOfRange xs) i → Row 3 i) → Decided Row (rangeRefusal xs)
   unfolding rangeRefusal
-  range-decides row = decide-last _ 3 _ (omega arith) (λ t. row _ (first-outside refl t))
+  range-decided row = decide-last _ 3 _ (omega arith) (λ t. row _ (first-outside xs refl (at xs) (λ k h. refl) t))
 
   pub range-agrees : Agrees (OfRange xs) (rangeRefusal xs)
-  range-agrees = record { stands = stands; decided = range-decides (λ i. Grounds.range) }
+  range-agrees = record { stands = stands; decided = range-decided (λ i. Grounds.range) }
     where
       stands : {n p : ℕ} → OfRange xs n p → Stands n p (rangeRefusal xs)
       stands (Grounds.range first) = range-stands first
+
+  -- nothing is refused where none is out of range, and none is where nothing is refused
+  pub none-outside-none : None (length xs) (OutOfRange xs) → rangeRefusal xs ≡ none
+  none-outside-none inside = rowless-none range-agrees rowless
+    where
+      rowless : NoRow (OfRange xs)
+      rowless n p (Grounds.range first) = inside _ (first .inside) (first .bad)
+
+  pub none-none-outside : rangeRefusal xs ≡ none → None (length xs) (OutOfRange xs)
+  none-none-outside clear k inside above =
+      true≢false (sym (unrefused-in-range xs (ap (λ (r : Refusal). r .number) clear) k inside) ∙ outside-fails (at xs k) above)
 
 -- ---- 5, 2, 1, then 3
 
@@ -128,7 +146,7 @@ module _ (d : Demand) (m : ℕ) (xs : List ℤ) where
   unfolding recordRefusal
   record-agrees = record {
     stands = stands;
-    decided = decide-after _ _ (decided-by (λ n p. Grounds.size) (sized .decided)) (λ clear. range-decides xs (λ i. Grounds.range (none-rowless sized (rw clear))));
+    decided = decide-after _ _ (decided-by (λ n p. Grounds.size) (sized .decided)) (λ clear. range-decided xs (λ i. Grounds.range (none-rowless sized (rw clear))));
   }
     where
       stands : {n p : ℕ} → OfRecord (d .largest) (d .each * m + d .besides) m xs n p → Stands n p (recordRefusal d m xs)
