@@ -39,11 +39,14 @@ use Rattle.drift.proofs.drift_figure.Reads as drift-figure
 use Rattle.drift.proofs.drift_figure.Kinds as drift-figure-kinds
 use Rattle.drift.proofs.remove_drift.Reads as remove-drift
 use Rattle.drift.proofs.remove_drift.Kinds as remove-drift-kinds
-use Rattle.acceptance.specs.Grounds.{Grounded, OfRange, OfSize, OfRecord, OfFraction, OfDeviation, OfDot, OfPhases, OfDifferences, OfDrift, OfRemoval}
+use Rattle.readings.proofs.float_sums.Reads as float-sums
+use Rattle.readings.proofs.float_sums.Kinds as float-sums-kinds
+use Rattle.acceptance.specs.Grounds.{Grounded, OfRange, OfSize, OfRecord, OfFraction, OfDeviation, OfDot, OfPhases, OfDifferences, OfDrift, OfRemoval, OfReadings}
 use Rattle.acceptance.proofs.Grounding.{refusal-grounded}
 use Rattle.acceptance.proofs.RecordGrounds.{size-agrees, range-agrees, record-agrees, multiple-agrees, sum-grounded}
 use Rattle.acceptance.proofs.FigureGrounds.{fraction-agrees, deviation-agrees, fraction-grounded, deviation-grounded, dot-grounded}
 use Rattle.acceptance.proofs.BufferGrounds.{phases-agree, differences-agree, removal-agrees, count-grounded, drift-grounded}
+use Rattle.acceptance.proofs.ReadingGrounds.{readings-grounded}
 
 -- ---- record
 
@@ -130,3 +133,10 @@ drift-figure-grounds κs args z w is = rw is (drift-grounded _)
 pub remove-drift-grounds : Always 2 remove-drift-kinds.ps remove-drift-kinds.r remove-drift.Post
     (λ κs args z w. let xs = now (args .0) in let buffer = now (args .1 .0) in Grounded (OfRemoval xs (length buffer)) (z .number) (z .place))
 remove-drift-grounds κs args z w is = rw (is .0) (count-grounded (removal-agrees _ _) _)
+
+-- ---- readings
+
+pub float-sums-grounds : Always 2 float-sums-kinds.ps float-sums-kinds.r float-sums.Post
+    (λ κs args z w. let xs = now (args .0) in let m = args .1 .0 in let buffer = now (args .1 .1 .0) in
+    Grounded (OfReadings m xs (length buffer)) (z .number) (z .place))
+float-sums-grounds κs args z w is = rw (is .0) (readings-grounded _ _ _)

@@ -2,6 +2,7 @@ pub mod Grounding
 pub mod RecordGrounds
 pub mod FigureGrounds
 pub mod BufferGrounds
+pub mod ReadingGrounds
 pub mod Grounds
 pub mod Figures
 pub mod NoughtLaws
