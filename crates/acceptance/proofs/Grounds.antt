@@ -41,12 +41,16 @@ use Rattle.drift.proofs.remove_drift.Reads as remove-drift
 use Rattle.drift.proofs.remove_drift.Kinds as remove-drift-kinds
 use Rattle.readings.proofs.float_sums.Reads as float-sums
 use Rattle.readings.proofs.float_sums.Kinds as float-sums-kinds
-use Rattle.acceptance.specs.Grounds.{Grounded, OfRange, OfSize, OfRecord, OfFraction, OfDeviation, OfDot, OfPhases, OfDifferences, OfDrift, OfRemoval, OfReadings}
+use Rattle.noise.specs.Noise.{recordTypeAnswer}
+use Rattle.noise.proofs.noise_of_record.Reads as noise-of-record
+use Rattle.noise.proofs.noise_of_record.Kinds as noise-of-record-kinds
+use Rattle.acceptance.specs.Grounds.{Grounded, OfRange, OfSize, OfRecord, OfFraction, OfDeviation, OfDot, OfPhases, OfDifferences, OfDrift, OfRemoval, OfReadings, OfRecordType}
 use Rattle.acceptance.proofs.Grounding.{refusal-grounded}
 use Rattle.acceptance.proofs.RecordGrounds.{size-agrees, range-agrees, record-agrees, multiple-agrees, sum-grounded}
 use Rattle.acceptance.proofs.FigureGrounds.{fraction-agrees, deviation-agrees, fraction-grounded, deviation-grounded, dot-grounded}
 use Rattle.acceptance.proofs.BufferGrounds.{phases-agree, differences-agree, removal-agrees, count-grounded, drift-grounded}
 use Rattle.acceptance.proofs.ReadingGrounds.{readings-grounded}
+use Rattle.acceptance.proofs.RecordTypeGrounds.{record-type-agrees, type-grounded}
 
 -- ---- record
 
@@ -140,3 +144,10 @@ pub float-sums-grounds : Always 2 float-sums-kinds.ps float-sums-kinds.r float-s
     (λ κs args z w. let xs = now (args .0) in let m = args .1 .0 in let buffer = now (args .1 .1 .0) in
     Grounded (OfReadings m xs (length buffer)) (z .number) (z .place))
 float-sums-grounds κs args z w is = rw (is .0) (readings-grounded _ _ _)
+
+-- ---- noise
+
+pub noise-of-record-grounds : Always 1 noise-of-record-kinds.ps noise-of-record-kinds.r noise-of-record.Post
+    (λ κs args z w. let xs = now (args .0) in let m = args .1 .0 in Grounded (OfRecordType m xs) (z .number) (z .place))
+unfolding recordTypeAnswer
+noise-of-record-grounds κs args z w is = rw is (type-grounded (record-type-agrees _ _) _)

@@ -3,6 +3,7 @@ pub mod RecordGrounds
 pub mod FigureGrounds
 pub mod BufferGrounds
 pub mod ReadingGrounds
+pub mod RecordTypeGrounds
 pub mod Grounds
 pub mod Figures
 pub mod NoughtLaws
