@@ -1,15 +1,14 @@
 -- The refusals of phase and frequency and of drift agree with their tables of grounds.
 use mathlib.Core.Path.{_≡_, refl, sym, ap, _∙_}
 use mathlib.Core.List.{List}
-use Prim.Native.Nat.{ℕ, _+_, _-_, _^_, _≤_, _<_}
+use Prim.Native.Nat.{ℕ, _+_, _-_, _<_}
 use native.Mathlib.Omega.{arith}
 use borrow.Author.Tests.{ltb-true, ltb-false, eqb-true, eqb-false}
-use lib.IntN.{ℤ, pos}
+use lib.IntN.{ℤ}
 use lib.ListN.{length}
 use Rattle.laws.specs.Lists.{at}
 use Rattle.laws.specs.Sums.{sumℤ}
 use Rattle.laws.proofs.SumLaws.{sumℤ-step}
-use Rattle.record.specs.Refusals.{none, refused, rangeRefusal}
 use Rattle.record.specs.Answers.{countAnswer, refusedCount}
 use Rattle.record.specs.declared.Refusal.{Refusal}
 use Rattle.record.specs.declared.CountAnswer.{CountAnswer}
@@ -19,7 +18,7 @@ use Rattle.drift.specs.Drift.{withoutDrift, driftRefusal, driftAnswer, removalR
 use Rattle.drift.specs.declared.DriftAnswer.{DriftAnswer}
 use Rattle.drift.proofs.DriftLaws.{drift-too-many, drift-too-few, drift-by-range, without-drift-length, removal-too-many, removal-too-few, removal-no-room, removal-sample-outside, removal-result-outside}
 use Rattle.acceptance.specs.Grounds
-use Rattle.acceptance.specs.Grounds.{Grounded, Between, First, OutOfRange, OfPhases, OfDifferences, OfDrift, OfRemoval}
+use Rattle.acceptance.specs.Grounds.{Grounded, Between, OfPhases, OfDifferences, OfDrift, OfRemoval}
 use Rattle.acceptance.proofs.Grounding.{Decided, Stands, Agrees, decide, decide-last, decide-after, grounded-answer}
 use Rattle.acceptance.proofs.RecordGrounds.{first-outside, outside-is, range-stands, range-decided, none-outside-none, none-none-outside}
 

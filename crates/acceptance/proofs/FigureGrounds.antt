@@ -2,7 +2,7 @@
 use mathlib.Core.Path.{_≡_, refl, ap}
 use mathlib.Core.Bool.{Bool, true, false, cond}
 use mathlib.Core.Logic.{inl, inr}
-use Prim.Native.Nat.{ℕ, _*_, _^_, _≤_, _<_}
+use Prim.Native.Nat.{ℕ, _*_, _^_, _<_}
 use native.Mathlib.Omega.{arith}
 use borrow.Author.Tests.{ltb-true, ltb-false, lt-ltb, leb-true, eqb-true, eqb-false, ne-eqb, not-false, not-true}
 use lib.Dec.{eqb}
@@ -17,7 +17,7 @@ use Rattle.variances.specs.declared.FractionAnswer.{FractionAnswer}
 use Rattle.variances.specs.declared.DeviationAnswer.{DeviationAnswer}
 use Rattle.variances.proofs.AnswerLaws.{givenFraction, noFraction, givenDeviation, noDeviation, deviation-refused}
 use Rattle.variances.proofs.DeviationLaws.{deviation-is-greatest}
-use Rattle.variances.proofs.FigureLaws.{Allowed, factor-nought, factor-too-large, count-nought, count-too-large, sum-too-large, unrefused-allowed, denominator-above-nought}
+use Rattle.variances.proofs.FigureLaws.{factor-nought, factor-too-large, count-nought, count-too-large, sum-too-large, unrefused-allowed, denominator-above-nought}
 use Rattle.plot.specs.Dots.{dotAnswer}
 use Rattle.plot.proofs.DotLaws.{too-few-dot, refused-dot}
 use Rattle.acceptance.specs.Grounds

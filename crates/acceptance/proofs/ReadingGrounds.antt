@@ -11,7 +11,7 @@ use lib.Ieee.{Float, nan, inf, fin, up, down}
 use lib.Ieee.Fits.{down-pos}
 use lib.ListN.{length, getD}
 use Rattle.laws.specs.Lists.{firstFailing}
-use Rattle.record.specs.Refusals.{none, refused, refusedIf, sizeRefusal}
+use Rattle.record.specs.Refusals.{refused, refusedIf, sizeRefusal}
 use Rattle.record.specs.declared.Refusal.{Refusal}
 use Rattle.sums.specs.Answers.{allanDemand}
 use Rattle.readings.specs.Readings.{readingNumber, firstBad, readingRefusal}
@@ -27,11 +27,11 @@ use Rattle.acceptance.proofs.RecordGrounds.{first-is, first-there, size
 
 -- ---- one reading
 
-pub far-is-three : {x : Float} → TooFar x → readingNumber x ≡ 3
+far-is-three : {x : Float} → TooFar x → readingNumber x ≡ 3
 far-is-three (Grounds.infinite {s} e) = ap readingNumber e ∙ infinite-is-three s
 far-is-three {x} (Grounds.beyond s a c some value above) = beyond-the-range x s a c some value above
 
-pub uneven-is-four : {x : Float} → NotWhole x → readingNumber x ≡ 4
+uneven-is-four : {x : Float} → NotWhole x → readingNumber x ≡ 4
 uneven-is-four (Grounds.no-number e) = ap readingNumber e ∙ not-a-number-is-four
 uneven-is-four {x} (Grounds.fraction s a c some value within rest) = fraction-in-range x s a c some value within rest
 

@@ -1,9 +1,9 @@
 -- The refusals of records agree with their tables of grounds.
 use mathlib.Core.Path.{_≡_, refl, sym, ap, subst, _∙_}
-use mathlib.Core.Bool.{Bool, true, false, not, _&&_, true≢false}
+use mathlib.Core.Bool.{Bool, true, false, _&&_, true≢false}
 use mathlib.Core.List.{List}
 use mathlib.Core.Logic.{_⊎_, inl, inr}
-use Prim.Native.Nat.{ℕ, _+_, _*_, _^_, _≤_, _<_}
+use Prim.Native.Nat.{ℕ, _+_, _*_, _^_, _<_}
 use native.Mathlib.Nat.{add-zero}
 use native.Mathlib.Omega.{arith}
 use borrow.Author.Tests.{ltb-true, ltb-false, leb-true, leb-false, lt-leb, not-false, not-true}
@@ -26,16 +26,16 @@ use Rattle.acceptance.proofs.Grounding.{Decided, Stands, Agrees, decide
 
 -- ---- the first that is bad: the first entry of a list that fails a test
 
+not-failing : (t : Bool) → (t ≡ false → ⊥) → t ≡ true
+not-failing true other = refl
+not-failing false other = absurd (other refl)
+
 module _ {A : Type 0} (test : A → Bool) (z : A) (xs : List A) {n : ℕ} (whole : length xs ≡ n) {Bad : ℕ → Type 0}
     (bad : (k : ℕ) → k < n → test (getD xs k z) ≡ false → Bad k) (fails : (k : ℕ) → k < n → Bad k → test (getD xs k z) ≡ false) where
-  passes : (t : Bool) → (t ≡ false → ⊥) → t ≡ true
-  passes true other = refl
-  passes false other = absurd (other refl)
-
   pub first-is : {i : ℕ} → First n Bad i → firstFailing test xs ≡ i
   first-is {i} first =
       first-failing-is test z xs i (omega (arith, first .inside, whole))
-      (λ k h. passes _ (λ e. first .before k h (bad k (omega (arith, first .inside)) e)))
+      (λ k h. not-failing _ (λ e. first .before k h (bad k (omega (arith, first .inside)) e)))
       (fails i (first .inside) (first .bad))
 
   pub first-there : ltb (firstFailing test xs) n ≡ true → First n Bad (firstFailing test xs)
@@ -159,10 +159,12 @@ module _ (largest each m : ℕ) (xs : List ℤ) where
   multiple = record { largest = largest; each = each; besides = 0 }
 
   pub multiple-agrees : Agrees (OfRecord largest (each * m) m xs) (recordRefusal multiple m xs)
-  multiple-agrees = subst (λ (fewest : ℕ). Agrees (OfRecord largest fewest m xs) (recordRefusal multiple m xs)) (add-zero (each * m)) (record-agrees multiple m xs)
+  multiple-agrees =
+      subst (λ (least : ℕ). Agrees (OfRecord largest least m xs) (recordRefusal multiple m xs)) (add-zero (each * m)) (record-agrees multiple m xs)
 
 -- ---- a sum's answer
 
 pub sum-grounded : {Row : ℕ → ℕ → Type 0} {r : Refusal} → Agrees Row r → (s count : ℕ) → Grounded Row (sumAnswer r s count .number) (sumAnswer r s count .place)
 unfolding sumAnswer
-sum-grounded agrees s count = grounded-answer agrees (λ (z : SumAnswer). z .number) (λ (z : SumAnswer). z .place) (givenSum s count) (noSum _) (refl, refl) (refl, refl)
+sum-grounded agrees s count =
+    grounded-answer agrees (λ (z : SumAnswer). z .number) (λ (z : SumAnswer). z .place) (givenSum s count) (noSum _) (refl, refl) (refl, refl)

@@ -17,7 +17,7 @@ use Rattle.sums.specs.Answers.{modifiedDemand}
 use Rattle.variances.specs.Deviations.{within}
 use Rattle.variances.proofs.DeviationLaws.{deviation-is-greatest}
 use Rattle.variances.proofs.Bounds.{modified-allowed, time-denominator-above-nought, time-deviation-within}
-use Rattle.noise.specs.Noise.{noiseRefusal, noiseAnswer, noiseDemand, timeDeviation, recordTypeAnswer}
+use Rattle.noise.specs.Noise.{noiseRefusal, noiseAnswer, noiseDemand, timeDeviation}
 use Rattle.noise.specs.declared.Noise.{Noise}
 use Rattle.noise.specs.declared.NoiseAnswer.{NoiseAnswer}
 use Rattle.noise.proofs.NoiseLaws.{sound-at-factor, sound-at-double, givenType, noType}
