@@ -9,6 +9,7 @@ use borrow.Author.Tests.{ne-eqb, eqb-true}
 use lib.Dec.{eqb}
 use Rattle.record.specs.Refusals.{none, refused, refusedIf, _then_}
 use Rattle.record.specs.declared.Refusal.{Refusal}
+use Rattle.record.proofs.RefusalLaws.{refusal-stands, none-gives-way}
 use Rattle.acceptance.specs.Grounds.{NoRow, Grounded}
 
 -- nothing is refused, or the refusal has a number and its row holds
@@ -54,6 +55,15 @@ pub decided-by : {Row Other : ℕ → ℕ → Type 0} {r : Refusal} → ((n p : 
 decided-by turn (nothing e) = nothing e
 decided-by turn (something some row) = something some (turn _ _ row)
 
+-- ---- what stands in an order
+
+module _ {n p : ℕ} (r s : Refusal) where
+  pub stands-first : Stands n p r → Stands n p (r then s)
+  stands-first stands = (stands .0, refusal-stands r s (λ zero. stands .0 (sym (ap (λ (t : Refusal). t .number) (stands .1)) ∙ zero)) ∙ stands .1)
+
+  pub stands-later : r ≡ none → Stands n p s → Stands n p (r then s)
+  stands-later clear stands = (stands .0, none-gives-way r s (ap (λ (t : Refusal). t .number) clear) ∙ stands .1)
+
 -- ---- what follows
 
 module _ {Row : ℕ → ℕ → Type 0} {r : Refusal} (agrees : Agrees Row r) where
@@ -86,6 +96,10 @@ module _ {Row : ℕ → ℕ → Type 0} {r : Refusal} (agrees : Agrees Row r) wh
       by-none : r .number ≡ 0 → Decided Row r → r .place ≡ 0
       by-none zero (nothing e) = ap (λ (s : Refusal). s .place) e
       by-none zero (something some row) = absurd (some zero)
+
+  -- an answer that is the refusal
+  pub refusal-grounded : {z : Refusal} → z ≡ r → Grounded Row (z .number) (z .place)
+  refusal-grounded is = grounded (ap (λ (s : Refusal). s .number) is) (ap (λ (s : Refusal). s .place) is)
 
   -- an answer with noughts where nothing is refused, else with the refusal's number and place
   module _ {A : Type 0} (number place : A → ℕ) (given refusal : A) (noughts : (number given ≡ 0) × (place given ≡ 0))

@@ -4,6 +4,11 @@ pub mod TypeGrounds
 pub mod MeterGrounds
 pub mod FileGrounds
 pub mod EntryGrounds
+pub mod FigureGrounds
+pub mod BufferGrounds
+pub mod ReadingGrounds
+pub mod RecordTypeGrounds
+pub mod Grounds
 pub mod Figures
 pub mod NoughtLaws
 pub mod PromiseLaws

@@ -1,0 +1,153 @@
+-- The ground of every refusal: for each public function that refuses, whatever its own contract allows is grounded (specs/Grounds.antt) in its table.
+use Prim.Native.Nat.{_+_, _*_}
+use native.Mathlib.Omega.{arith}
+use denote.Ref.{now}
+use lib.ListN.{length}
+use Rattle.laws.specs.Single.{Always}
+use Rattle.wide.specs.Wide.{value}
+use Rattle.record.proofs.range_refusal.Reads as range-refusal
+use Rattle.record.proofs.range_refusal.Kinds as range-refusal-kinds
+use Rattle.record.proofs.size_refusal.Reads as size-refusal
+use Rattle.record.proofs.size_refusal.Kinds as size-refusal-kinds
+use Rattle.record.proofs.record_refusal.Reads as record-refusal
+use Rattle.record.proofs.record_refusal.Kinds as record-refusal-kinds
+use Rattle.sums.specs.Answers.{allanDemand, allanSumAnswer, modifiedSumAnswer}
+use Rattle.sums.proofs.allan_sum.Reads as allan-sum
+use Rattle.sums.proofs.allan_sum.Kinds as allan-sum-kinds
+use Rattle.sums.proofs.modified_sum.Reads as modified-sum
+use Rattle.sums.proofs.modified_sum.Kinds as modified-sum-kinds
+use Rattle.sums.specs.Published.{allanDenominator, timeDenominator}
+use Rattle.variances.specs.Answers.{allanFractionAnswer, timeFractionAnswer, allanDeviationAnswer, timeDeviationAnswer}
+use Rattle.variances.proofs.allan_fraction.Reads as allan-fraction
+use Rattle.variances.proofs.allan_fraction.Kinds as allan-fraction-kinds
+use Rattle.variances.proofs.time_fraction.Reads as time-fraction
+use Rattle.variances.proofs.time_fraction.Kinds as time-fraction-kinds
+use Rattle.variances.proofs.allan_deviation.Reads as allan-deviation
+use Rattle.variances.proofs.allan_deviation.Kinds as allan-deviation-kinds
+use Rattle.variances.proofs.time_deviation.Reads as time-deviation
+use Rattle.variances.proofs.time_deviation.Kinds as time-deviation-kinds
+use Rattle.plot.specs.Dots.{allanDotAnswer, timeDotAnswer}
+use Rattle.plot.proofs.dots.allan_dot.Reads as allan-dot
+use Rattle.plot.proofs.dots.allan_dot.Kinds as allan-dot-kinds
+use Rattle.plot.proofs.dots.time_dot.Reads as time-dot
+use Rattle.plot.proofs.dots.time_dot.Kinds as time-dot-kinds
+use Rattle.frequency.proofs.phase_from_frequency.Reads as phase-from-frequency
+use Rattle.frequency.proofs.phase_from_frequency.Kinds as phase-from-frequency-kinds
+use Rattle.frequency.proofs.frequency_from_phase.Reads as frequency-from-phase
+use Rattle.frequency.proofs.frequency_from_phase.Kinds as frequency-from-phase-kinds
+use Rattle.drift.proofs.drift_figure.Reads as drift-figure
+use Rattle.drift.proofs.drift_figure.Kinds as drift-figure-kinds
+use Rattle.drift.proofs.remove_drift.Reads as remove-drift
+use Rattle.drift.proofs.remove_drift.Kinds as remove-drift-kinds
+use Rattle.readings.proofs.float_sums.Reads as float-sums
+use Rattle.readings.proofs.float_sums.Kinds as float-sums-kinds
+use Rattle.noise.specs.Noise.{recordTypeAnswer}
+use Rattle.noise.proofs.noise_of_record.Reads as noise-of-record
+use Rattle.noise.proofs.noise_of_record.Kinds as noise-of-record-kinds
+use Rattle.acceptance.specs.Grounds.{Grounded, OfRange, OfSize, OfRecord, OfFraction, OfDeviation, OfDot, OfPhases, OfDifferences, OfDrift, OfRemoval, OfReadings, OfRecordType}
+use Rattle.acceptance.proofs.Grounding.{refusal-grounded}
+use Rattle.acceptance.proofs.RecordGrounds.{size-agrees, range-agrees, record-agrees, multiple-agrees, sum-grounded}
+use Rattle.acceptance.proofs.FigureGrounds.{fraction-agrees, deviation-agrees, fraction-grounded, deviation-grounded, dot-grounded}
+use Rattle.acceptance.proofs.BufferGrounds.{phases-agree, differences-agree, removal-agrees, count-grounded, drift-grounded}
+use Rattle.acceptance.proofs.ReadingGrounds.{readings-grounded}
+use Rattle.acceptance.proofs.RecordTypeGrounds.{record-type-agrees, type-grounded}
+
+-- ---- record
+
+pub range-refusal-grounds : Always 1 range-refusal-kinds.ps range-refusal-kinds.r range-refusal.Post
+    (λ κs args z w. let xs = now (args .0) in Grounded (OfRange xs) (z .number) (z .place))
+range-refusal-grounds κs args z w is = refusal-grounded (range-agrees _) is
+
+pub size-refusal-grounds : Always 0 size-refusal-kinds.ps size-refusal-kinds.r size-refusal.Post
+    (λ κs args z w. let d = args .0 in let m = args .1 .0 in let n = args .1 .1 .0 in
+    Grounded (OfSize (d .largest) (d .each * m + d .besides) m n) (z .number) (z .place))
+size-refusal-grounds κs args z w is = refusal-grounded (size-agrees _ _ _) is
+
+pub record-refusal-grounds : Always 1 record-refusal-kinds.ps record-refusal-kinds.r record-refusal.Post
+    (λ κs args z w. let d = args .0 in let m = args .1 .0 in let xs = now (args .1 .1 .0) in
+    Grounded (OfRecord (d .largest) (d .each * m + d .besides) m xs) (z .number) (z .place))
+record-refusal-grounds κs args z w is = refusal-grounded (record-agrees _ _ _) is
+
+-- ---- sums
+
+pub allan-sum-grounds : Always 1 allan-sum-kinds.ps allan-sum-kinds.r allan-sum.Post
+    (λ κs args z w. let xs = now (args .0) in let m = args .1 .0 in Grounded (OfRecord 10922 (2 * m + 1) m xs) (z .number) (z .place))
+unfolding allanSumAnswer
+allan-sum-grounds κs args z w is = rw is (sum-grounded (record-agrees allanDemand _ _) _ _)
+
+pub modified-sum-grounds : Always 1 modified-sum-kinds.ps modified-sum-kinds.r modified-sum.Post
+    (λ κs args z w. let xs = now (args .0) in let m = args .1 .0 in Grounded (OfRecord 10922 (3 * m) m xs) (z .number) (z .place))
+unfolding modifiedSumAnswer
+modified-sum-grounds κs args z w is = rw is (sum-grounded (multiple-agrees 10922 3 _ _) _ _)
+
+-- ---- variances
+
+pub allan-fraction-grounds : Always 0 allan-fraction-kinds.ps allan-fraction-kinds.r allan-fraction.Post
+    (λ κs args z w. let sum = value (args .0) in let m = args .1 .0 in let count = args .1 .1 .0 in Grounded (OfFraction sum m count) (z .number) (z .place))
+unfolding allanFractionAnswer
+allan-fraction-grounds κs args z w is = rw is (fraction-grounded (fraction-agrees _ _ _) _)
+
+pub time-fraction-grounds : Always 0 time-fraction-kinds.ps time-fraction-kinds.r time-fraction.Post
+    (λ κs args z w. let sum = value (args .0) in let m = args .1 .0 in let count = args .1 .1 .0 in Grounded (OfFraction sum m count) (z .number) (z .place))
+unfolding timeFractionAnswer
+time-fraction-grounds κs args z w is = rw is (fraction-grounded (fraction-agrees _ _ _) _)
+
+pub allan-deviation-grounds : Always 0 allan-deviation-kinds.ps allan-deviation-kinds.r allan-deviation.Post
+    (λ κs args z w. let sum = value (args .0) in let m = args .1 .0 in let count = args .1 .1 .0 in
+    Grounded (OfDeviation sum m count (2 * (m * m) * count)) (z .number) (z .place))
+unfolding allanDeviationAnswer allanDenominator
+allan-deviation-grounds κs args z w is = rw is (deviation-grounded (deviation-agrees _ _ _ 2 (omega arith)) _)
+
+pub time-deviation-grounds : Always 0 time-deviation-kinds.ps time-deviation-kinds.r time-deviation.Post
+    (λ κs args z w. let sum = value (args .0) in let m = args .1 .0 in let count = args .1 .1 .0 in
+    Grounded (OfDeviation sum m count (6 * (m * m) * count)) (z .number) (z .place))
+unfolding timeDeviationAnswer timeDenominator
+time-deviation-grounds κs args z w is = rw is (deviation-grounded (deviation-agrees _ _ _ 6 (omega arith)) _)
+
+-- ---- plot
+
+pub allan-dot-grounds : Always 0 allan-dot-kinds.ps allan-dot-kinds.r allan-dot.Post
+    (λ κs args z w. let sum = value (args .0) in let m = args .1 .0 in let count = args .1 .1 .0 in
+    Grounded (OfDot sum m count (2 * (m * m) * count)) (z .number) (z .place))
+unfolding allanDotAnswer allanDeviationAnswer allanDenominator
+allan-dot-grounds κs args z w is = rw is (dot-grounded _ _ _ _ (deviation-agrees _ _ _ 2 (omega arith)) _)
+
+pub time-dot-grounds : Always 0 time-dot-kinds.ps time-dot-kinds.r time-dot.Post
+    (λ κs args z w. let sum = value (args .0) in let m = args .1 .0 in let count = args .1 .1 .0 in
+    Grounded (OfDot sum m count (6 * (m * m) * count)) (z .number) (z .place))
+unfolding timeDotAnswer timeDeviationAnswer timeDenominator
+time-dot-grounds κs args z w is = rw is (dot-grounded _ _ _ _ (deviation-agrees _ _ _ 6 (omega arith)) _)
+
+-- ---- frequency
+
+pub phase-from-frequency-grounds : Always 2 phase-from-frequency-kinds.ps phase-from-frequency-kinds.r phase-from-frequency.Post
+    (λ κs args z w. let ys = now (args .0) in let buffer = now (args .1 .0) in Grounded (OfPhases ys (length buffer)) (z .number) (z .place))
+phase-from-frequency-grounds κs args z w is = rw (is .0) (count-grounded (phases-agree _ _) _)
+
+pub frequency-from-phase-grounds : Always 2 frequency-from-phase-kinds.ps frequency-from-phase-kinds.r frequency-from-phase.Post
+    (λ κs args z w. let xs = now (args .0) in let buffer = now (args .1 .0) in Grounded (OfDifferences xs (length buffer)) (z .number) (z .place))
+frequency-from-phase-grounds κs args z w is = rw (is .0) (count-grounded (differences-agree _ _) _)
+
+-- ---- drift
+
+pub drift-figure-grounds : Always 1 drift-figure-kinds.ps drift-figure-kinds.r drift-figure.Post
+    (λ κs args z w. let xs = now (args .0) in Grounded (OfDrift xs) (z .number) (z .place))
+drift-figure-grounds κs args z w is = rw is (drift-grounded _)
+
+pub remove-drift-grounds : Always 2 remove-drift-kinds.ps remove-drift-kinds.r remove-drift.Post
+    (λ κs args z w. let xs = now (args .0) in let buffer = now (args .1 .0) in Grounded (OfRemoval xs (length buffer)) (z .number) (z .place))
+remove-drift-grounds κs args z w is = rw (is .0) (count-grounded (removal-agrees _ _) _)
+
+-- ---- readings
+
+pub float-sums-grounds : Always 2 float-sums-kinds.ps float-sums-kinds.r float-sums.Post
+    (λ κs args z w. let xs = now (args .0) in let m = args .1 .0 in let buffer = now (args .1 .1 .0) in
+    Grounded (OfReadings m xs (length buffer)) (z .number) (z .place))
+float-sums-grounds κs args z w is = rw (is .0) (readings-grounded _ _ _)
+
+-- ---- noise
+
+pub noise-of-record-grounds : Always 1 noise-of-record-kinds.ps noise-of-record-kinds.r noise-of-record.Post
+    (λ κs args z w. let xs = now (args .0) in let m = args .1 .0 in Grounded (OfRecordType m xs) (z .number) (z .place))
+unfolding recordTypeAnswer
+noise-of-record-grounds κs args z w is = rw is (type-grounded (record-type-agrees _ _) _)
