@@ -7,8 +7,9 @@ use Prim.Native.Nat.{ℕ, _*_, _%_, _≤_}
 use borrow.Fn.Kinds.{endedOf}
 use denote.Ref.{now}
 use denote.Triple.Clauses.{atExit}
-use lib.IntN.{ℤ}
+use lib.IntN.{ℤ, pos}
 use lib.ListN.{length, getD}
+use Rattle.laws.specs.Lists.{at}
 use Rattle.laws.specs.Single.{Single, Always, Settled}
 use Rattle.wide.proofs.Unique.{sum-single, at-most-single, product-low-single, product-single, size-single, with-square-single, divided-single, root-single, square-at-most-single}
 use Rattle.wide.proofs.sum.Reads as wide-sum
@@ -72,6 +73,7 @@ use Rattle.readings.proofs.Unique.{float-sums-single}
 use Rattle.readings.proofs.float_sums.Reads as float-sums
 use Rattle.readings.proofs.float_sums.Kinds as float-sums-kinds
 use Rattle.plot.proofs.Unique.{drawn-number-single, allan-dot-single, time-dot-single}
+use Rattle.plot.specs.Drawn.{plusZero}
 use Rattle.plot.specs.Dots.{allanDotAnswer, timeDotAnswer}
 use Rattle.plot.specs.declared.dots.DotAnswer.{DotAnswer}
 use Rattle.plot.proofs.drawn.drawn_number.Reads as drawn-number
@@ -84,6 +86,7 @@ use Rattle.noise.proofs.Unique.{noise-type-single, noise-of-record-single, bars
 use Rattle.noise.specs.Noise.{typeAnswer, recordTypeAnswer, alphaOf}
 use Rattle.noise.specs.declared.NoiseAnswer.{NoiseAnswer}
 use Rattle.noise.specs.declared.Noise.{Noise}
+use Rattle.noise.specs.declared.Noise.the-variants.{WhitePhase}
 use Rattle.noise.proofs.noise_type.Reads as noise-type
 use Rattle.noise.proofs.noise_type.Kinds as noise-type-kinds
 use Rattle.noise.proofs.noise_of_record.Reads as noise-of-record
@@ -151,8 +154,8 @@ use Rattle.ploegelster.proofs.drawing.plg_noise_of_record.Reads as plg-noise-of
 use Rattle.ploegelster.proofs.drawing.plg_noise_of_record.Kinds as plg-noise-of-record-kinds
 use Rattle.ploegelster.proofs.drawing.plg_bars.Reads as plg-bars
 use Rattle.ploegelster.proofs.drawing.plg_bars.Kinds as plg-bars-kinds
-use Rattle.acceptance.specs.Noughts.{Refused, CountNought, ReadNought, SumNought, PartValuesNought, FloatNought, ReportNought, DriftNought, DrawnNought, DotNought, ToldDotNought, FractionNought, DeviationNought, NoiseNought, ToldNoiseNought, BarsNought}
-use Rattle.acceptance.proofs.NoughtLaws.{count-noughts, past-the-count, read-noughts, past-the-values, sum-noughts, float-noughts, float-part-noughts, past-the-samples, report-noughts, report-part-noughts, drift-noughts, meter-as-it-came, ring-as-it-came, other-slots-unchanged, drawn-noughts, dot-noughts, told-dot-noughts, fraction-noughts, deviation-noughts, noise-noughts, told-noise-noughts, bars-noughts, alpha-bars-noughts}
+use Rattle.acceptance.specs.Noughts.{Refused, SumNought, PartsNought, PartsApart, DotNought, BarsNought}
+use Rattle.acceptance.proofs.NoughtLaws.{count-noughts, past-the-count, read-noughts, past-the-values, sum-noughts, float-noughts, float-part-noughts, past-the-samples, report-noughts, report-part-noughts, drift-noughts, meter-as-it-came, ring-as-it-came, other-slots-unchanged, own-slot-written, drawn-noughts, dot-noughts, told-dot-noughts, fraction-noughts, deviation-noughts, noise-noughts, told-noise-noughts, bars-noughts, alpha-bars-noughts}
 
 -- ---- wide: whole numbers of 128 bits; nothing is refused
 
@@ -203,41 +206,41 @@ refused-count-one-answer = refused-count-single
 -- ---- sums
 
 pub allan-sum-settled : Settled 1 allan-sum-kinds.ps allan-sum-kinds.r allan-sum.Post
-    (λ κs args z w. Refused (z .number) → SumNought z)
+    (λ κs args z w. Refused (z .number) → SumNought (z .sum) (z .count))
 unfolding allanSumAnswer
 allan-sum-settled = (allan-sum-single, λ κs args z w is. rw is (sum-noughts _ _ _))
 
 pub modified-sum-settled : Settled 1 modified-sum-kinds.ps modified-sum-kinds.r modified-sum.Post
-    (λ κs args z w. Refused (z .number) → SumNought z)
+    (λ κs args z w. Refused (z .number) → SumNought (z .sum) (z .count))
 unfolding modifiedSumAnswer
 modified-sum-settled = (modified-sum-single, λ κs args z w is. rw is (sum-noughts _ _ _))
 
 -- ---- variances
 
 pub allan-fraction-settled : Settled 0 allan-fraction-kinds.ps allan-fraction-kinds.r allan-fraction.Post
-    (λ κs args z w. Refused (z .number) → FractionNought z)
+    (λ κs args z w. Refused (z .number) → SumNought (z .numerator) (z .denominator))
 unfolding allanFractionAnswer
 allan-fraction-settled = (allan-fraction-single, λ κs args z w is. rw is (fraction-noughts _ _))
 
 pub time-fraction-settled : Settled 0 time-fraction-kinds.ps time-fraction-kinds.r time-fraction.Post
-    (λ κs args z w. Refused (z .number) → FractionNought z)
+    (λ κs args z w. Refused (z .number) → SumNought (z .numerator) (z .denominator))
 unfolding timeFractionAnswer
 time-fraction-settled = (time-fraction-single, λ κs args z w is. rw is (fraction-noughts _ _))
 
 pub allan-deviation-settled : Settled 0 allan-deviation-kinds.ps allan-deviation-kinds.r allan-deviation.Post
-    (λ κs args z w. Refused (z .number) → DeviationNought z)
+    (λ κs args z w. Refused (z .number) → z .deviation ≡ 0)
 unfolding allanDeviationAnswer
 allan-deviation-settled = (allan-deviation-single, λ κs args z w is. rw is (deviation-noughts _ _))
 
 pub time-deviation-settled : Settled 0 time-deviation-kinds.ps time-deviation-kinds.r time-deviation.Post
-    (λ κs args z w. Refused (z .number) → DeviationNought z)
+    (λ κs args z w. Refused (z .number) → z .deviation ≡ 0)
 unfolding timeDeviationAnswer
 time-deviation-settled = (time-deviation-single, λ κs args z w is. rw is (deviation-noughts _ _))
 
 -- ---- frequency
 
 pub phase-from-frequency-settled : Settled 2 phase-from-frequency-kinds.ps phase-from-frequency-kinds.r phase-from-frequency.Post
-    (λ κs args z w. let buffer = now (args .1 .0) in let left = w .1 .0 in Refused (z .number) → CountNought z × (left ≡ buffer))
+    (λ κs args z w. let buffer = now (args .1 .0) in let left = w .1 .0 in Refused (z .number) → (z .count ≡ 0) × (left ≡ buffer))
 phase-from-frequency-settled = (phase-from-frequency-single, λ κs args z w is. rw (is .0, is .1) (count-noughts _ _ _ _))
 
 -- the answer's count is the length of the output, nought where the call is refused
@@ -246,7 +249,7 @@ pub phase-from-frequency-past : Always 2 phase-from-frequency-kinds.ps phase-fro
 phase-from-frequency-past κs args z w is = rw (is .0, is .1) (past-the-count _ _ _ _ (phases-length _))
 
 pub frequency-from-phase-settled : Settled 2 frequency-from-phase-kinds.ps frequency-from-phase-kinds.r frequency-from-phase.Post
-    (λ κs args z w. let buffer = now (args .1 .0) in let left = w .1 .0 in Refused (z .number) → CountNought z × (left ≡ buffer))
+    (λ κs args z w. let buffer = now (args .1 .0) in let left = w .1 .0 in Refused (z .number) → (z .count ≡ 0) × (left ≡ buffer))
 frequency-from-phase-settled = (frequency-from-phase-single, λ κs args z w is. rw (is .0, is .1) (count-noughts _ _ _ _))
 
 pub frequency-from-phase-past : Always 2 frequency-from-phase-kinds.ps frequency-from-phase-kinds.r frequency-from-phase.Post
@@ -256,11 +259,11 @@ frequency-from-phase-past κs args z w is = rw (is .0, is .1) (past-the-count _ 
 -- ---- drift
 
 pub drift-figure-settled : Settled 1 drift-figure-kinds.ps drift-figure-kinds.r drift-figure.Post
-    (λ κs args z w. Refused (z .number) → DriftNought z)
+    (λ κs args z w. Refused (z .number) → (z .p ≡ pos 0) × (z .r ≡ 0))
 drift-figure-settled = (drift-figure-single, λ κs args z w is. rw is (drift-noughts _))
 
 pub remove-drift-settled : Settled 2 remove-drift-kinds.ps remove-drift-kinds.r remove-drift.Post
-    (λ κs args z w. let buffer = now (args .1 .0) in let left = w .1 .0 in Refused (z .number) → CountNought z × (left ≡ buffer))
+    (λ κs args z w. let buffer = now (args .1 .0) in let left = w .1 .0 in Refused (z .number) → (z .count ≡ 0) × (left ≡ buffer))
 remove-drift-settled = (remove-drift-single, λ κs args z w is. rw (is .0, is .1) (count-noughts _ _ _ _))
 
 pub remove-drift-past : Always 2 remove-drift-kinds.ps remove-drift-kinds.r remove-drift.Post
@@ -271,14 +274,12 @@ remove-drift-past κs args z w is = rw (is .0, is .1) (past-the-count _ _ _ _ (w
 
 pub float-sums-settled : Settled 2 float-sums-kinds.ps float-sums-kinds.r float-sums.Post
     (λ κs args z w. let buffer = now (args .1 .1 .0) in let left = w .1 .1 .0 in
-    (Refused (z .number) → FloatNought z × (left ≡ buffer))
-    × (Refused (z .allan .number) → PartValuesNought (z .allan))
-    × (Refused (z .modified .number) → PartValuesNought (z .modified)))
+    (Refused (z .number) → PartsNought (z .allan) (z .modified) × (left ≡ buffer))
+    × PartsApart (z .allan) (z .modified))
 float-sums-settled = (
   float-sums-single,
   λ κs args z w is.
-      let parts = float-part-noughts (args .1 .0) (now (args .0)) (now (args .1 .1 .0)) in
-      rw (is .0, is .1) (float-noughts _ _ _, parts .0, parts .1),
+      rw (is .0, is .1) (float-noughts _ _ _, float-part-noughts (args .1 .0) (now (args .0)) (now (args .1 .1 .0))),
 )
 
 pub float-sums-past : Always 2 float-sums-kinds.ps float-sums-kinds.r float-sums.Post
@@ -289,28 +290,28 @@ float-sums-past κs args z w is = rw (is .1) (past-the-samples (args .1 .0) (now
 -- ---- plot: what is drawn
 
 pub drawn-number-settled : Settled 0 drawn-number-kinds.ps drawn-number-kinds.r drawn-number.Post
-    (λ κs args z w. Refused (z .number) → DrawnNought z)
+    (λ κs args z w. Refused (z .number) → z .value ≡ plusZero)
 drawn-number-settled = (drawn-number-single, λ κs args z w is. rw is (drawn-noughts _))
 
 pub allan-dot-settled : Settled 0 allan-dot-kinds.ps allan-dot-kinds.r allan-dot.Post
-    (λ κs args z w. Refused (z .number) → DotNought z)
+    (λ κs args z w. Refused (z .number) → DotNought (z .dot))
 unfolding allanDotAnswer
 allan-dot-settled = (allan-dot-single, λ κs args z w is. rw is (dot-noughts _))
 
 pub time-dot-settled : Settled 0 time-dot-kinds.ps time-dot-kinds.r time-dot.Post
-    (λ κs args z w. Refused (z .number) → DotNought z)
+    (λ κs args z w. Refused (z .number) → DotNought (z .dot))
 unfolding timeDotAnswer
 time-dot-settled = (time-dot-single, λ κs args z w is. rw is (dot-noughts _))
 
 -- ---- noise
 
 pub noise-type-settled : Settled 0 noise-type-kinds.ps noise-type-kinds.r noise-type.Post
-    (λ κs args z w. Refused (z .number) → NoiseNought z)
+    (λ κs args z w. Refused (z .number) → z .noise ≡ WhitePhase)
 unfolding typeAnswer
 noise-type-settled = (noise-type-single, λ κs args z w is. rw is (noise-noughts _ _))
 
 pub noise-of-record-settled : Settled 1 noise-of-record-kinds.ps noise-of-record-kinds.r noise-of-record.Post
-    (λ κs args z w. Refused (z .number) → NoiseNought z)
+    (λ κs args z w. Refused (z .number) → z .noise ≡ WhitePhase)
 unfolding recordTypeAnswer
 noise-of-record-settled = (noise-of-record-single, λ κs args z w is. rw is (noise-noughts _ _))
 
@@ -336,17 +337,21 @@ pub meter-sample-past : Always 1 meter-sample-kinds.ps meter-sample-kinds.r mete
     (i : ℕ) (e : ℤ) → (i ≡ x .n % (3 * x .m) → ⊥) → getD left i e ≡ getD ring i e)
 meter-sample-past κs args z w is = rw (is .1) (other-slots-unchanged _ _ _)
 
+-- an accepted sample stands in that slot
+pub meter-sample-slot : Always 1 meter-sample-kinds.ps meter-sample-kinds.r meter-sample.Post
+    (λ κs args z w. let x = args .0 in let v = args .1 .1 .0 in let left = w .1 .0 in z .number ≡ 0 → at left (x .n % (3 * x .m)) ≡ v)
+meter-sample-slot κs args z w is = rw (is .0, is .1) (own-slot-written _ _ _)
+
 -- a 1 for one part is no refusal of the call: the values of that part are noughts
 pub meter-report-settled : Settled 0 meter-report-kinds.ps meter-report-kinds.r meter-report.Post
-    (λ κs args z w. (Refused (z .number) → ReportNought z)
-    × (Refused (z .allan .number) → PartValuesNought (z .allan))
-    × (Refused (z .modified .number) → PartValuesNought (z .modified)))
-meter-report-settled = (report-single, λ κs args z w is. rw is (report-noughts _, report-part-noughts _ .0, report-part-noughts _ .1))
+    (λ κs args z w. (Refused (z .number) → PartsNought (z .allan) (z .modified))
+    × PartsApart (z .allan) (z .modified))
+meter-report-settled = (report-single, λ κs args z w is. rw is (report-noughts _, report-part-noughts _))
 
 -- ---- phr
 
 pub read-file-settled : Settled 2 read-file-kinds.ps read-file-kinds.r read-file.Post
-    (λ κs args z w. let buffer = now (args .1 .0) in let left = w .1 .0 in Refused (z .number) → ReadNought z × (left ≡ buffer))
+    (λ κs args z w. let buffer = now (args .1 .0) in let left = w .1 .0 in Refused (z .number) → (z .kind ≡ 0) × (z .count ≡ 0) × (left ≡ buffer))
 read-file-settled = (read-file-single, λ κs args z w is. rw (is .0, is .1) (read-noughts _ _))
 
 pub read-file-past : Always 2 read-file-kinds.ps read-file-kinds.r read-file.Post
@@ -354,7 +359,7 @@ pub read-file-past : Always 2 read-file-kinds.ps read-file-kinds.r read-file.Pos
 read-file-past κs args z w is = rw (is .0, is .1) (past-the-values (now (args .0)) (now (args .1 .0)))
 
 pub write-file-settled : Settled 2 write-file-kinds.ps write-file-kinds.r write-file.Post
-    (λ κs args z w. let buffer = now (args .1 .1 .0) in let left = w .1 .1 .0 in Refused (z .number) → CountNought z × (left ≡ buffer))
+    (λ κs args z w. let buffer = now (args .1 .1 .0) in let left = w .1 .1 .0 in Refused (z .number) → (z .count ≡ 0) × (left ≡ buffer))
 write-file-settled = (write-file-single, λ κs args z w is. rw (is .0, is .1) (count-noughts _ _ _ _))
 
 pub write-file-past : Always 2 write-file-kinds.ps write-file-kinds.r write-file.Post
@@ -366,106 +371,38 @@ write-file-past κs args z w is = rw (is .0, is .1) (past-the-count _ _ _ _ (fil
 pub plg-allan-sum-is : plg-allan-sum.Post ≡ allan-sum.Post
 plg-allan-sum-is = refl
 
-pub plg-allan-sum-settled : Settled 1 plg-allan-sum-kinds.ps plg-allan-sum-kinds.r plg-allan-sum.Post
-    (λ κs args z w. Refused (z .number) → SumNought z)
-plg-allan-sum-settled = allan-sum-settled
-
 pub plg-modified-sum-is : plg-modified-sum.Post ≡ modified-sum.Post
 plg-modified-sum-is = refl
-
-pub plg-modified-sum-settled : Settled 1 plg-modified-sum-kinds.ps plg-modified-sum-kinds.r plg-modified-sum.Post
-    (λ κs args z w. Refused (z .number) → SumNought z)
-plg-modified-sum-settled = modified-sum-settled
 
 pub plg-allan-fraction-is : plg-allan-fraction.Post ≡ allan-fraction.Post
 plg-allan-fraction-is = refl
 
-pub plg-allan-fraction-settled : Settled 0 plg-allan-fraction-kinds.ps plg-allan-fraction-kinds.r plg-allan-fraction.Post
-    (λ κs args z w. Refused (z .number) → FractionNought z)
-plg-allan-fraction-settled = allan-fraction-settled
-
 pub plg-time-fraction-is : plg-time-fraction.Post ≡ time-fraction.Post
 plg-time-fraction-is = refl
-
-pub plg-time-fraction-settled : Settled 0 plg-time-fraction-kinds.ps plg-time-fraction-kinds.r plg-time-fraction.Post
-    (λ κs args z w. Refused (z .number) → FractionNought z)
-plg-time-fraction-settled = time-fraction-settled
 
 pub plg-allan-deviation-is : plg-allan-deviation.Post ≡ allan-deviation.Post
 plg-allan-deviation-is = refl
 
-pub plg-allan-deviation-settled : Settled 0 plg-allan-deviation-kinds.ps plg-allan-deviation-kinds.r plg-allan-deviation.Post
-    (λ κs args z w. Refused (z .number) → DeviationNought z)
-plg-allan-deviation-settled = allan-deviation-settled
-
 pub plg-time-deviation-is : plg-time-deviation.Post ≡ time-deviation.Post
 plg-time-deviation-is = refl
-
-pub plg-time-deviation-settled : Settled 0 plg-time-deviation-kinds.ps plg-time-deviation-kinds.r plg-time-deviation.Post
-    (λ κs args z w. Refused (z .number) → DeviationNought z)
-plg-time-deviation-settled = time-deviation-settled
 
 pub plg-phase-from-frequency-is : plg-phase-from-frequency.Post ≡ phase-from-frequency.Post
 plg-phase-from-frequency-is = refl
 
-pub plg-phase-from-frequency-settled : Settled 2 plg-phase-from-frequency-kinds.ps plg-phase-from-frequency-kinds.r plg-phase-from-frequency.Post
-    (λ κs args z w. let buffer = now (args .1 .0) in let left = w .1 .0 in Refused (z .number) → CountNought z × (left ≡ buffer))
-plg-phase-from-frequency-settled = phase-from-frequency-settled
-
-pub plg-phase-from-frequency-past : Always 2 plg-phase-from-frequency-kinds.ps plg-phase-from-frequency-kinds.r plg-phase-from-frequency.Post
-    (λ κs args z w. let buffer = now (args .1 .0) in let left = w .1 .0 in (i : ℕ) (e : ℤ) → z .count ≤ i → getD left i e ≡ getD buffer i e)
-plg-phase-from-frequency-past = phase-from-frequency-past
-
 pub plg-frequency-from-phase-is : plg-frequency-from-phase.Post ≡ frequency-from-phase.Post
 plg-frequency-from-phase-is = refl
-
-pub plg-frequency-from-phase-settled : Settled 2 plg-frequency-from-phase-kinds.ps plg-frequency-from-phase-kinds.r plg-frequency-from-phase.Post
-    (λ κs args z w. let buffer = now (args .1 .0) in let left = w .1 .0 in Refused (z .number) → CountNought z × (left ≡ buffer))
-plg-frequency-from-phase-settled = frequency-from-phase-settled
-
-pub plg-frequency-from-phase-past : Always 2 plg-frequency-from-phase-kinds.ps plg-frequency-from-phase-kinds.r plg-frequency-from-phase.Post
-    (λ κs args z w. let buffer = now (args .1 .0) in let left = w .1 .0 in (i : ℕ) (e : ℤ) → z .count ≤ i → getD left i e ≡ getD buffer i e)
-plg-frequency-from-phase-past = frequency-from-phase-past
 
 pub plg-drift-figure-is : plg-drift-figure.Post ≡ drift-figure.Post
 plg-drift-figure-is = refl
 
-pub plg-drift-figure-settled : Settled 1 plg-drift-figure-kinds.ps plg-drift-figure-kinds.r plg-drift-figure.Post
-    (λ κs args z w. Refused (z .number) → DriftNought z)
-plg-drift-figure-settled = drift-figure-settled
-
 pub plg-remove-drift-is : plg-remove-drift.Post ≡ remove-drift.Post
 plg-remove-drift-is = refl
-
-pub plg-remove-drift-settled : Settled 2 plg-remove-drift-kinds.ps plg-remove-drift-kinds.r plg-remove-drift.Post
-    (λ κs args z w. let buffer = now (args .1 .0) in let left = w .1 .0 in Refused (z .number) → CountNought z × (left ≡ buffer))
-plg-remove-drift-settled = remove-drift-settled
-
-pub plg-remove-drift-past : Always 2 plg-remove-drift-kinds.ps plg-remove-drift-kinds.r plg-remove-drift.Post
-    (λ κs args z w. let buffer = now (args .1 .0) in let left = w .1 .0 in (i : ℕ) (e : ℤ) → z .count ≤ i → getD left i e ≡ getD buffer i e)
-plg-remove-drift-past = remove-drift-past
 
 pub plg-float-sums-is : plg-float-sums.Post ≡ float-sums.Post
 plg-float-sums-is = refl
 
-pub plg-float-sums-settled : Settled 2 plg-float-sums-kinds.ps plg-float-sums-kinds.r plg-float-sums.Post
-    (λ κs args z w. let buffer = now (args .1 .1 .0) in let left = w .1 .1 .0 in
-    (Refused (z .number) → FloatNought z × (left ≡ buffer))
-    × (Refused (z .allan .number) → PartValuesNought (z .allan))
-    × (Refused (z .modified .number) → PartValuesNought (z .modified)))
-plg-float-sums-settled = float-sums-settled
-
-pub plg-float-sums-past : Always 2 plg-float-sums-kinds.ps plg-float-sums-kinds.r plg-float-sums.Post
-    (λ κs args z w. let xs = now (args .0) in let buffer = now (args .1 .1 .0) in let left = w .1 .1 .0 in
-    (i : ℕ) (e : ℤ) → length xs ≤ i → getD left i e ≡ getD buffer i e)
-plg-float-sums-past = float-sums-past
-
 pub plg-drawn-number-is : plg-drawn-number.Post ≡ drawn-number.Post
 plg-drawn-number-is = refl
-
-pub plg-drawn-number-settled : Settled 0 plg-drawn-number-kinds.ps plg-drawn-number-kinds.r plg-drawn-number.Post
-    (λ κs args z w. Refused (z .number) → DrawnNought z)
-plg-drawn-number-settled = drawn-number-settled
 
 -- C has no enum: a dot is told as a kind and a double, whatever dot the entry's contract allows
 pub plg-allan-dot-tells : Always 0 plg-allan-dot-kinds.ps plg-allan-dot-kinds.r plg-allan-dot.Post
@@ -473,7 +410,7 @@ pub plg-allan-dot-tells : Always 0 plg-allan-dot-kinds.ps plg-allan-dot-kinds.r 
 plg-allan-dot-tells κs args z w is own other = is ∙ sym (ap toldDot other)
 
 pub plg-allan-dot-settled : Settled 0 plg-allan-dot-kinds.ps plg-allan-dot-kinds.r plg-allan-dot.Post
-    (λ κs args z w. Refused (z .number) → ToldDotNought z)
+    (λ κs args z w. Refused (z .number) → (z .kind ≡ 0) × (z .value ≡ plusZero))
 unfolding allanDotAnswer
 plg-allan-dot-settled = (plg-allan-dot-single, λ κs args z w is. rw is (told-dot-noughts _))
 
@@ -482,7 +419,7 @@ pub plg-time-dot-tells : Always 0 plg-time-dot-kinds.ps plg-time-dot-kinds.r plg
 plg-time-dot-tells κs args z w is own other = is ∙ sym (ap toldDot other)
 
 pub plg-time-dot-settled : Settled 0 plg-time-dot-kinds.ps plg-time-dot-kinds.r plg-time-dot.Post
-    (λ κs args z w. Refused (z .number) → ToldDotNought z)
+    (λ κs args z w. Refused (z .number) → (z .kind ≡ 0) × (z .value ≡ plusZero))
 unfolding timeDotAnswer
 plg-time-dot-settled = (plg-time-dot-single, λ κs args z w is. rw is (told-dot-noughts _))
 
@@ -492,7 +429,7 @@ pub plg-noise-type-tells : Always 0 plg-noise-type-kinds.ps plg-noise-type-kinds
 plg-noise-type-tells κs args z w is own other = is ∙ sym (ap toldNoise other)
 
 pub plg-noise-type-settled : Settled 0 plg-noise-type-kinds.ps plg-noise-type-kinds.r plg-noise-type.Post
-    (λ κs args z w. Refused (z .number) → ToldNoiseNought z)
+    (λ κs args z w. Refused (z .number) → z .alpha ≡ pos 0)
 plg-noise-type-settled = (plg-noise-type-single, λ κs args z w is. rw is (told-noise-noughts _))
 
 pub plg-noise-of-record-tells : Always 1 plg-noise-of-record-kinds.ps plg-noise-of-record-kinds.r plg-noise-of-record.Post
@@ -500,7 +437,7 @@ pub plg-noise-of-record-tells : Always 1 plg-noise-of-record-kinds.ps plg-noise-
 plg-noise-of-record-tells κs args z w is own other = is ∙ sym (ap toldNoise other)
 
 pub plg-noise-of-record-settled : Settled 1 plg-noise-of-record-kinds.ps plg-noise-of-record-kinds.r plg-noise-of-record.Post
-    (λ κs args z w. Refused (z .number) → ToldNoiseNought z)
+    (λ κs args z w. Refused (z .number) → z .alpha ≡ pos 0)
 plg-noise-of-record-settled = (plg-noise-of-record-single, λ κs args z w is. rw is (told-noise-noughts _))
 
 -- an alpha stands for the type that has it
@@ -526,49 +463,14 @@ plg-bars-settled = (plg-bars-single, λ κs args z w is. rw is (alpha-bars-nough
 pub plg-meter-start-is : plg-meter-start.Post ≡ meter-start.Post
 plg-meter-start-is = refl
 
-pub plg-meter-start-settled : Settled 1 plg-meter-start-kinds.ps plg-meter-start-kinds.r plg-meter-start.Post
-    (λ κs args z w. let old = args .0 in Refused (z .number) → z .meter ≡ old)
-plg-meter-start-settled = meter-start-settled
-
 pub plg-meter-sample-is : plg-meter-sample.Post ≡ meter-sample.Post
 plg-meter-sample-is = refl
-
-pub plg-meter-sample-settled : Settled 1 plg-meter-sample-kinds.ps plg-meter-sample-kinds.r plg-meter-sample.Post
-    (λ κs args z w. let x = args .0 in let ring = now (args .1 .0) in let left = w .1 .0 in Refused (z .number) → (z .meter ≡ x) × (left ≡ ring))
-plg-meter-sample-settled = meter-sample-settled
-
-pub plg-meter-sample-past : Always 1 plg-meter-sample-kinds.ps plg-meter-sample-kinds.r plg-meter-sample.Post
-    (λ κs args z w. let x = args .0 in let ring = now (args .1 .0) in let left = w .1 .0 in
-    (i : ℕ) (e : ℤ) → (i ≡ x .n % (3 * x .m) → ⊥) → getD left i e ≡ getD ring i e)
-plg-meter-sample-past = meter-sample-past
 
 pub plg-meter-report-is : plg-meter-report.Post ≡ meter-report.Post
 plg-meter-report-is = refl
 
-pub plg-meter-report-settled : Settled 0 plg-meter-report-kinds.ps plg-meter-report-kinds.r plg-meter-report.Post
-    (λ κs args z w. (Refused (z .number) → ReportNought z)
-    × (Refused (z .allan .number) → PartValuesNought (z .allan))
-    × (Refused (z .modified .number) → PartValuesNought (z .modified)))
-plg-meter-report-settled = meter-report-settled
-
 pub plg-read-file-is : plg-read-file.Post ≡ read-file.Post
 plg-read-file-is = refl
 
-pub plg-read-file-settled : Settled 2 plg-read-file-kinds.ps plg-read-file-kinds.r plg-read-file.Post
-    (λ κs args z w. let buffer = now (args .1 .0) in let left = w .1 .0 in Refused (z .number) → ReadNought z × (left ≡ buffer))
-plg-read-file-settled = read-file-settled
-
-pub plg-read-file-past : Always 2 plg-read-file-kinds.ps plg-read-file-kinds.r plg-read-file.Post
-    (λ κs args z w. let buffer = now (args .1 .0) in let left = w .1 .0 in (i : ℕ) (e : ℤ) → z .count ≤ i → getD left i e ≡ getD buffer i e)
-plg-read-file-past = read-file-past
-
 pub plg-write-file-is : plg-write-file.Post ≡ write-file.Post
 plg-write-file-is = refl
-
-pub plg-write-file-settled : Settled 2 plg-write-file-kinds.ps plg-write-file-kinds.r plg-write-file.Post
-    (λ κs args z w. let buffer = now (args .1 .1 .0) in let left = w .1 .1 .0 in Refused (z .number) → CountNought z × (left ≡ buffer))
-plg-write-file-settled = write-file-settled
-
-pub plg-write-file-past : Always 2 plg-write-file-kinds.ps plg-write-file-kinds.r plg-write-file.Post
-    (λ κs args z w. let buffer = now (args .1 .1 .0) in let left = w .1 .1 .0 in (i : ℕ) (e : ℕ) → z .count ≤ i → getD left i e ≡ getD buffer i e)
-plg-write-file-past = write-file-past

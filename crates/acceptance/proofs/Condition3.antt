@@ -1,11 +1,11 @@
--- Condition 3: the running meter equals the formula. A trace (crates/meter/proofs/Trace.antt) is any sequence of starts, samples, reports and refused
+-- Condition 3: the running meter equals the formula. A trace (specs/Calls.antt) is any sequence of starts, samples, reports and refused
 -- calls, each given the meter as the call before gave it back and lent its own ring, and each step is what the function's own contract allows.
 -- Trace x ring m h: x is the meter that the latest call gave back, ring its own ring as it was left, m the factor of the latest accepted start (nought
 -- before the first), and h the samples accepted since. Starts, Samples and Reports are one call by its contract. The exported calls have the same
 -- contracts (Condition1.antt, plg-meter-start-is, plg-meter-sample-is, plg-meter-report-is).
-use mathlib.Core.Path.{_≡_}
+use mathlib.Core.Path.{_≡_, refl}
 use mathlib.Core.List.{List}
-use Prim.Native.Nat.{ℕ, _+_, _-_, _*_, _^_, _≤_, _<_}
+use Prim.Native.Nat.{ℕ, _+_, _-_, _*_, _%_, _^_, _≤_, _<_}
 use lib.IntN.{ℤ, pos, natAbs, _+ℤ_, _*ℤ_}
 use lib.ListN.{length}
 use Rattle.laws.specs.Lists.{at}
@@ -16,19 +16,22 @@ use Rattle.meter.specs.Meter.{slot}
 use Rattle.meter.specs.declared.Meter.{Meter}
 use Rattle.meter.specs.declared.MeterAnswer.{MeterAnswer}
 use Rattle.meter.specs.declared.Report.{Report}
-use Rattle.meter.proofs.Trace.{Starts, Samples, Reports, Trace}
-use Rattle.meter.proofs.AnyCalls.{started-factor, reports-published, takes-every-start, takes-every-sample, shifted-streams-agree, refused-start-changes-nothing, refused-sample-changes-nothing}
-use Rattle.meter.proofs.LatestOnly.{answers, only-read-slots-matter, same-latest-same-answers, same-samples-same-answers}
+use Rattle.meter.proofs.Running.{publishedReport}
+use Rattle.acceptance.specs.Calls.{Starts, Samples, Reports, Trace, Run}
+use Rattle.acceptance.proofs.AnyCalls.{started-factor, reports-published, takes-every-start, takes-every-sample, trace-runs, shifted-streams-agree, refused-start-changes-nothing, refused-sample-changes-nothing}
+use Rattle.acceptance.proofs.LatestOnly.{only-read-slots-matter, same-latest-same-answers, same-samples-same-answers}
 use Rattle.acceptance.specs.Noughts.{Refused}
-use Rattle.acceptance.specs.Promises.{ReportOf}
+use Rattle.acceptance.specs.Promises.{PartsOf}
 use Rattle.acceptance.proofs.PromiseLaws.{report-of}
 
 -- ---- the report
 
 -- After any sequence of calls, once started, the report is A with n-2m and B with n-3m+1, worked directly over every sample accepted since the latest
 -- accepted start; each apart, or 1 for the one that is not yet due.
-pub report-is-published : {x : Meter} {ring accepted : List ℤ} {m : ℕ} → Trace x ring m accepted → 1 ≤ m → {z : Report} → Reports x z → ReportOf m accepted z
-report-is-published trace started call = rw (reports-published trace started call) (report-of _ _)
+pub report-is-published : {x : Meter} {ring accepted : List ℤ} {m : ℕ} → Trace x ring m accepted → 1 ≤ m → {z : Report} → Reports x z →
+    (z .number ≡ 0) × PartsOf m accepted (z .allan) (z .modified)
+unfolding publishedReport
+report-is-published trace started call = rw (reports-published trace started call) (refl, report-of _ _)
 
 -- An accepted start has a factor of at least 1, so that "once started" is 1 ≤ m.
 pub once-started : {x : Meter} {m : ℕ} {ring : List ℤ} {z : MeterAnswer} → Starts x m ring z → z .number ≡ 0 → 1 ≤ m
@@ -53,11 +56,12 @@ pub shifted-streams : {x x′ : Meter} {ring ring′ accepted accepted′ : List
     (offset rate : ℤ) → length accepted′ ≡ length accepted →
     ((i : ℕ) → i < length accepted → at accepted′ i ≡ at accepted i +ℤ (offset +ℤ rate *ℤ pos i)) →
     {z z′ : Report} → Reports x z → Reports x′ z′ →
-    (z′ ≡ z) × ReportOf m accepted z × (allanSum m accepted′ ≡ allanSum m accepted) × (modifiedSum m accepted′ ≡ modifiedSum m accepted)
+    (z′ ≡ z) × (z .number ≡ 0) × PartsOf m accepted (z .allan) (z .modified) × (allanSum m accepted′ ≡ allanSum m accepted) × (modifiedSum m accepted′ ≡ modifiedSum m accepted)
 shifted-streams {m = m} trace trace′ started offset rate same moved call call′ =
     let shifted : Shifted offset rate _ _ = record { same-length = same; moved = moved } in (
       shifted-streams-agree trace trace′ started shifted call call′,
-      report-is-published trace started call,
+      report-is-published trace started call .0,
+      report-is-published trace started call .1,
       shifted-allan-sum shifted m,
       shifted-modified-sum shifted m,
     )
@@ -86,14 +90,18 @@ only-slots-that-are-read long long′ once twice thrice =
     only-read-slots-matter (record { long = long; long′ = long′; once = once; twice = twice; thrice = thrice })
 
 -- All later samples are answered the same if the rings agree on the slots of the latest 3m samples, or of all while there are fewer.
-pub only-the-latest : (x : Meter) (ring ring′ : List ℤ) → 1 ≤ x .m → 3 * x .m ≤ length ring → 3 * x .m ≤ length ring′ →
+pub only-the-latest : {x : Meter} {ring ring′ later : List ℤ} {zs zs′ : List MeterAnswer} → 1 ≤ x .m → 3 * x .m ≤ length ring → 3 * x .m ≤ length ring′ →
     ((k : ℕ) → k < x .n → x .n ≤ k + 3 * x .m → slot x ring k ≡ slot x ring′ k) →
-    (later : List ℤ) → answers x ring later ≡ answers x ring′ later
-only-the-latest x ring ring′ least long long′ kept =
-    same-latest-same-answers x ring ring′ (record { factor-least = least; long = long; long′ = long′; kept = kept })
+    Run x ring later zs → Run x ring′ later zs′ → zs ≡ zs′
+only-the-latest least long long′ kept = same-latest-same-answers (record { factor-least = least; long = long; long′ = long′; kept = kept })
 
 -- Two meters that were started at one factor and have accepted the same samples since are equal, and answer all later samples the same, whatever calls
 -- came before and whatever else stands in their rings.
 pub same-samples : {x x′ : Meter} {ring ring′ accepted : List ℤ} {m : ℕ} → Trace x ring m accepted → Trace x′ ring′ m accepted → 1 ≤ m →
-    (x ≡ x′) × ((later : List ℤ) → answers x ring later ≡ answers x′ ring′ later)
+    (x ≡ x′) × ((later : List ℤ) (zs zs′ : List MeterAnswer) → Run x ring later zs → Run x′ ring′ later zs′ → zs ≡ zs′)
 same-samples trace trace′ started = same-samples-same-answers trace trace′ started
+
+-- The ring keeps the latest 3m samples, number k in slot k mod 3m.
+pub ring-keeps-the-latest : {x : Meter} {ring accepted : List ℤ} {m : ℕ} → Trace x ring m accepted → 1 ≤ m →
+    (k : ℕ) → k < length accepted → length accepted ≤ k + 3 * m → at ring (k % (3 * m)) ≡ at accepted k
+ring-keeps-the-latest trace started = trace-runs trace started .1 .kept

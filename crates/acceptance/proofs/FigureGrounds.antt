@@ -2,7 +2,7 @@
 use mathlib.Core.Path.{_≡_, refl, ap}
 use mathlib.Core.Bool.{Bool, true, false, cond}
 use mathlib.Core.Logic.{inl, inr}
-use Prim.Native.Nat.{ℕ, _*_, _^_, _<_}
+use Prim.Native.Nat.{ℕ, _*_, _^_, _≤_, _<_}
 use native.Mathlib.Omega.{arith}
 use borrow.Author.Tests.{ltb-true, ltb-false, lt-ltb, leb-true, eqb-true, eqb-false, ne-eqb, not-false, not-true}
 use lib.Dec.{eqb}
@@ -21,7 +21,7 @@ use Rattle.variances.proofs.FigureLaws.{factor-nought, factor-too-large, count-
 use Rattle.plot.specs.Dots.{dotAnswer}
 use Rattle.plot.proofs.DotLaws.{too-few-dot, refused-dot}
 use Rattle.acceptance.specs.Grounds
-use Rattle.acceptance.specs.Grounds.{Grounded, OfFraction, OfDeviation, OfDot}
+use Rattle.acceptance.specs.Grounds.{NoRow, Grounded, OfFraction, OfDeviation, OfDot}
 use Rattle.acceptance.proofs.Grounding
 use Rattle.acceptance.proofs.Grounding.{Decided, Stands, Agrees, decide, decide-last, decide-after, decided-by, stands-first, stands-later, rowless-none, none-rowless, grounded, grounded-answer}
 use Rattle.acceptance.proofs.RecordGrounds.{test-between, test-outside}
@@ -131,3 +131,18 @@ module _ (sum m count d : ℕ) {r : Refusal} (agrees : Agrees (OfDeviation sum m
 
   pub dot-grounded : (s : ℕ) → Grounded (OfDot sum m count d) (dotAnswer (deviationAnswer r s) .number) (dotAnswer (deviationAnswer r s) .place)
   dot-grounded s = grounded dot-agrees (dot-told s .0) (dot-told s .1)
+
+  -- an answered dot of a count above nought is that of a deviation that is given
+  pub dotted-none : 1 ≤ count → NoRow (OfDot sum m count d) → r ≡ none
+  dotted-none some rowless = by-case (agrees .decided)
+    where
+      no-count : {n p : ℕ} → OfDeviation sum m count d n p → n ≡ 1 → ⊥
+      no-count (Grounds.fraction (Grounds.factor f)) e = omega arith
+      no-count (Grounds.fraction (Grounds.no-count f none)) e = omega arith
+      no-count (Grounds.fraction (Grounds.many f h)) e = omega arith
+      no-count (Grounds.fraction (Grounds.large f h k)) e = omega arith
+      no-count (Grounds.above rowless is large) e = omega arith
+
+      by-case : Decided (OfDeviation sum m count d) r → r ≡ none
+      by-case (Grounding.nothing e) = e
+      by-case (Grounding.something some row) = absurd (rowless _ _ (Grounds.deviation (no-count row) row))

@@ -1,21 +1,121 @@
--- Every starred figure of the rules holds.
+-- Every starred figure of the rules holds, over what each entry's own contract allows.
 use mathlib.Core.Path.{_≡_, refl}
-use mathlib.Core.List.{[]}
+use denote.Ref.{now}
+use lib.ListN.{length}
+use Rattle.laws.specs.Single.{Always}
 use Rattle.laws.specs.Sums.{sum, sumℤ}
 use Rattle.laws.specs.Lists.{tabulate, firstFailing}
 use Rattle.laws.specs.Greatest.{bitByBit}
+use Rattle.wide.specs.Wide.{value}
 use Rattle.record.specs.Refusals.{inRange, rangeRefusal, sizeRefusal, recordRefusal}
-use Rattle.frequency.specs.Frequency.{phasesFrom, phases}
-use Rattle.drift.specs.Drift.{driftP, driftR, driftRefusal, driftAnswer, floored, withoutDrift}
+use Rattle.record.specs.Answers.{countAnswer, bufferLeft}
+use Rattle.frequency.specs.Frequency.{phasesFrom, phases, firstLeaving, phaseRefusal, phaseAnswer, phaseBuffer}
+use Rattle.drift.specs.Drift.{driftP, driftR, driftRefusal, driftAnswer, floored, withoutDrift, removalRefusal, removalAnswer, removalBuffer}
 use Rattle.sums.specs.Published.{difference, allanCount, allanSum, allanDenominator, windowSum, modifiedCount, modifiedSum, timeDenominator}
 use Rattle.variances.specs.Fractions.{euclid, gcd, lowestTerms}
 use Rattle.variances.specs.Deviations.{deviation}
 use Rattle.sums.specs.Answers.{sumAnswer, allanSumAnswer, modifiedSumAnswer}
 use Rattle.variances.specs.Answers.{figureRefusal, fractionAnswer, allanFractionAnswer, timeFractionAnswer, deviationRefusal, deviationAnswer, allanDeviationAnswer}
 use Rattle.noise.specs.Noise.{alphaOf, kappaOf, noiseOf, noiseRefusal, noiseAnswer, typeAnswer}
-use Rattle.noise.specs.Bars.{barWidth, barHalf}
-use Rattle.acceptance.specs.Figures.{sameList, holds, failing, table}
+use Rattle.noise.specs.Bars.{barWidth, barHalf, barsRefusal, barOf, barsAnswer}
+use Rattle.phr.specs.Bytes.{lowFirst, twosComplement, valueBytes, valuesBytes}
+use Rattle.phr.specs.File.{header, fileOf, mostValues, valueInRange}
+use Rattle.phr.specs.Reading.{rightLength}
+use Rattle.phr.specs.Writing.{writeRefusal, writeAnswer, writeBuffer}
+use Rattle.sums.proofs.allan_sum.Reads as allan-sum
+use Rattle.sums.proofs.allan_sum.Kinds as allan-sum-kinds
+use Rattle.sums.proofs.modified_sum.Reads as modified-sum
+use Rattle.sums.proofs.modified_sum.Kinds as modified-sum-kinds
+use Rattle.variances.proofs.allan_fraction.Reads as allan-fraction
+use Rattle.variances.proofs.allan_fraction.Kinds as allan-fraction-kinds
+use Rattle.variances.proofs.time_fraction.Reads as time-fraction
+use Rattle.variances.proofs.time_fraction.Kinds as time-fraction-kinds
+use Rattle.variances.proofs.allan_deviation.Reads as allan-deviation
+use Rattle.variances.proofs.allan_deviation.Kinds as allan-deviation-kinds
+use Rattle.frequency.proofs.phase_from_frequency.Reads as phase-from-frequency
+use Rattle.frequency.proofs.phase_from_frequency.Kinds as phase-from-frequency-kinds
+use Rattle.drift.proofs.drift_figure.Reads as drift-figure
+use Rattle.drift.proofs.drift_figure.Kinds as drift-figure-kinds
+use Rattle.drift.proofs.remove_drift.Reads as remove-drift
+use Rattle.drift.proofs.remove_drift.Kinds as remove-drift-kinds
+use Rattle.noise.proofs.noise_type.Reads as noise-type
+use Rattle.noise.proofs.noise_type.Kinds as noise-type-kinds
+use Rattle.noise.proofs.bars.bars.Reads as bars
+use Rattle.noise.proofs.bars.bars.Kinds as bars-kinds
+use Rattle.phr.proofs.write_file.Reads as write-file
+use Rattle.phr.proofs.write_file.Kinds as write-file-kinds
+use Rattle.acceptance.specs.Figures.{Starred}
 
-pub starred-figures : failing table ≡ []
-unfolding failing holds table sameList sum sumℤ tabulate firstFailing bitByBit inRange rangeRefusal sizeRefusal recordRefusal phasesFrom phases driftP driftR driftRefusal driftAnswer floored withoutDrift difference allanCount allanSum allanDenominator windowSum modifiedCount modifiedSum timeDenominator euclid gcd lowestTerms deviation sumAnswer allanSumAnswer modifiedSumAnswer figureRefusal fractionAnswer allanFractionAnswer timeFractionAnswer deviationRefusal deviationAnswer allanDeviationAnswer alphaOf kappaOf noiseOf noiseRefusal noiseAnswer typeAnswer barWidth barHalf
-starred-figures = refl
+pub starred-figures : Starred
+unfolding sum sumℤ tabulate firstFailing bitByBit inRange rangeRefusal sizeRefusal recordRefusal countAnswer bufferLeft phasesFrom phases firstLeaving phaseRefusal driftP driftR driftRefusal driftAnswer floored withoutDrift removalRefusal difference allanCount allanSum allanDenominator windowSum modifiedCount modifiedSum timeDenominator euclid gcd lowestTerms deviation sumAnswer allanSumAnswer modifiedSumAnswer figureRefusal fractionAnswer allanFractionAnswer timeFractionAnswer deviationRefusal deviationAnswer allanDeviationAnswer alphaOf kappaOf noiseOf noiseRefusal noiseAnswer typeAnswer barWidth barHalf barsRefusal barOf barsAnswer lowFirst twosComplement valueBytes valuesBytes header fileOf mostValues valueInRange rightLength writeRefusal
+starred-figures = record {
+  squares-at-1 = (refl, refl);
+  squares-deviation = refl;
+  squares-at-2 = (refl, refl);
+  squares-modified = (refl, refl);
+  line-at-1 = (refl, refl);
+  by-turns-at-1 = (refl, refl);
+  by-turns-at-2 = (refl, refl);
+  by-turns-modified = refl;
+  spike-at-1 = (refl, refl);
+  spike-at-2 = (refl, refl);
+  spike-modified = (refl, refl);
+  ends = refl;
+  phase-count = refl;
+  phases = refl;
+  squares-drift = (refl, refl, refl);
+  falling-drift = (refl, refl, refl);
+  bar = refl;
+  flicker-phase = (refl, refl);
+  at-the-bound = (refl, refl);
+  past-the-bound = (refl, refl);
+  file-length = refl;
+  file = refl;
+}
+
+-- ---- whatever an entry's contract allows is what the rows compute
+
+pub allan-sum-computes : Always 1 allan-sum-kinds.ps allan-sum-kinds.r allan-sum.Post
+    (λ κs args z w. z ≡ allanSumAnswer (args .1 .0) (now (args .0)))
+allan-sum-computes κs args z w is = is
+
+pub modified-sum-computes : Always 1 modified-sum-kinds.ps modified-sum-kinds.r modified-sum.Post
+    (λ κs args z w. z ≡ modifiedSumAnswer (args .1 .0) (now (args .0)))
+modified-sum-computes κs args z w is = is
+
+pub allan-fraction-computes : Always 0 allan-fraction-kinds.ps allan-fraction-kinds.r allan-fraction.Post
+    (λ κs args z w. z ≡ allanFractionAnswer (value (args .0)) (args .1 .0) (args .1 .1 .0))
+allan-fraction-computes κs args z w is = is
+
+pub time-fraction-computes : Always 0 time-fraction-kinds.ps time-fraction-kinds.r time-fraction.Post
+    (λ κs args z w. z ≡ timeFractionAnswer (value (args .0)) (args .1 .0) (args .1 .1 .0))
+time-fraction-computes κs args z w is = is
+
+pub allan-deviation-computes : Always 0 allan-deviation-kinds.ps allan-deviation-kinds.r allan-deviation.Post
+    (λ κs args z w. z ≡ allanDeviationAnswer (value (args .0)) (args .1 .0) (args .1 .1 .0))
+allan-deviation-computes κs args z w is = is
+
+pub phase-from-frequency-computes : Always 2 phase-from-frequency-kinds.ps phase-from-frequency-kinds.r phase-from-frequency.Post
+    (λ κs args z w. let ys = now (args .0) in let buffer = now (args .1 .0) in (z ≡ phaseAnswer ys (length buffer)) × (w .1 .0 ≡ phaseBuffer ys buffer))
+phase-from-frequency-computes κs args z w is = is
+
+pub drift-figure-computes : Always 1 drift-figure-kinds.ps drift-figure-kinds.r drift-figure.Post
+    (λ κs args z w. z ≡ driftAnswer (now (args .0)))
+drift-figure-computes κs args z w is = is
+
+pub remove-drift-computes : Always 2 remove-drift-kinds.ps remove-drift-kinds.r remove-drift.Post
+    (λ κs args z w. let xs = now (args .0) in let buffer = now (args .1 .0) in (z ≡ removalAnswer xs (length buffer)) × (w .1 .0 ≡ removalBuffer xs buffer))
+remove-drift-computes κs args z w is = is
+
+pub noise-type-computes : Always 0 noise-type-kinds.ps noise-type-kinds.r noise-type.Post
+    (λ κs args z w. z ≡ typeAnswer (args .0) (args .1 .0))
+noise-type-computes κs args z w is = is
+
+pub bars-computes : Always 0 bars-kinds.ps bars-kinds.r bars.Post
+    (λ κs args z w. z ≡ barsAnswer (args .0) (args .1 .0) (args .1 .1 .0))
+bars-computes κs args z w is = is
+
+pub write-file-computes : Always 2 write-file-kinds.ps write-file-kinds.r write-file.Post
+    (λ κs args z w. let kind = args .0 in let values = now (args .1 .0) in let buffer = now (args .1 .1 .0) in
+    (z ≡ writeAnswer kind values (length buffer)) × (w .1 .1 .0 ≡ writeBuffer kind values buffer))
+write-file-computes κs args z w is = is

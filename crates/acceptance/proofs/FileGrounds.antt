@@ -111,7 +111,7 @@ module _ (kind : ℕ) (values : List ℤ) (room : ℕ) where
       (λ t. Grounds.range known few (ltb-false room _ h)
       (found-is-first kind values (length values) (at values) known refl (λ k h. refl) (ltb-true _ (length values) t))))))
 
-  writing-agrees : Agrees (OfWriting kind values room) (writeRefusal kind values room)
+  pub writing-agrees : Agrees (OfWriting kind values room) (writeRefusal kind values room)
   writing-agrees = record { stands = writing-stands; decided = writing-decided }
 
   pub writing-grounded : Grounded (OfWriting kind values room) (writeAnswer kind values room .number) (writeAnswer kind values room .place)
@@ -283,7 +283,7 @@ module _ (bytes : List ℕ) (room : ℕ) where
       (λ t. Grounds.range rowless whole (ltb-false room (countOf bytes) v)
       (found-is-first (kindOf bytes) (valuesOf bytes) (countOf bytes) value known (values-of-length bytes) entry-is (ltb-true _ (countOf bytes) t)))))))
 
-  reading-agrees : Agrees (OfReading bytes room) (readRefusal bytes room)
+  pub reading-agrees : Agrees (OfReading bytes room) (readRefusal bytes room)
   reading-agrees = record { stands = reading-stands; decided = reading-decided }
 
   pub reading-grounded : Grounded (OfReading bytes room) (readAnswer bytes room .number) (readAnswer bytes room .place)

@@ -1,11 +1,10 @@
 -- How a refusal that is worked out by tests in their order is brought under a table of grounds (specs/Grounds.antt): each row that holds is the
 -- refusal, and where something is refused some row holds.
-use mathlib.Core.Path.{_≡_, refl, sym, ap, subst, _∙_}
+use mathlib.Core.Path.{_≡_, refl, sym, ap, _∙_}
 use mathlib.Core.Bool.{Bool, true, false, cond}
-use mathlib.Core.Logic.{_⊎_, inl, inr}
 use Prim.Native.Nat.{ℕ, _<_}
 use native.Mathlib.Omega.{arith}
-use borrow.Author.Tests.{ne-eqb, eqb-true}
+use borrow.Author.Tests.{ne-eqb}
 use lib.Dec.{eqb}
 use Rattle.record.specs.Refusals.{none, refused, refusedIf, _then_}
 use Rattle.record.specs.declared.Refusal.{Refusal}
@@ -79,6 +78,10 @@ module _ {Row : ℕ → ℕ → Type 0} {r : Refusal} (agrees : Agrees Row r) wh
   none-rowless zero n p row =
       let stands = agrees .stands row in
       stands .0 (sym (ap (λ (s : Refusal). s .number) (stands .1)) ∙ zero)
+
+  -- an answer that is grounded in the table and has no number: nothing is refused
+  pub answered-none : {number place : ℕ} → Grounded Row number place → number ≡ 0 → r ≡ none
+  answered-none grounds zero = rowless-none (grounds .answered zero .1)
 
   -- the number and the place of an answer that has them from the refusal
   pub grounded : {number place : ℕ} → number ≡ r .number → place ≡ r .place → Grounded Row number place

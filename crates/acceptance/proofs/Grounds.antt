@@ -41,16 +41,46 @@ use Rattle.drift.proofs.remove_drift.Reads as remove-drift
 use Rattle.drift.proofs.remove_drift.Kinds as remove-drift-kinds
 use Rattle.readings.proofs.float_sums.Reads as float-sums
 use Rattle.readings.proofs.float_sums.Kinds as float-sums-kinds
-use Rattle.noise.specs.Noise.{recordTypeAnswer}
+use Rattle.noise.specs.Noise.{alphaOf, typeAnswer, recordTypeAnswer}
 use Rattle.noise.proofs.noise_of_record.Reads as noise-of-record
 use Rattle.noise.proofs.noise_of_record.Kinds as noise-of-record-kinds
-use Rattle.acceptance.specs.Grounds.{Grounded, OfRange, OfSize, OfRecord, OfFraction, OfDeviation, OfDot, OfPhases, OfDifferences, OfDrift, OfRemoval, OfReadings, OfRecordType}
+use Rattle.plot.proofs.drawn.drawn_number.Reads as drawn-number
+use Rattle.plot.proofs.drawn.drawn_number.Kinds as drawn-number-kinds
+use Rattle.noise.proofs.noise_type.Reads as noise-type
+use Rattle.noise.proofs.noise_type.Kinds as noise-type-kinds
+use Rattle.noise.proofs.bars.bars.Reads as bars
+use Rattle.noise.proofs.bars.bars.Kinds as bars-kinds
+use Rattle.meter.proofs.Meter.start.Reads as meter-start
+use Rattle.meter.proofs.Meter.start.Kinds as meter-start-kinds
+use Rattle.meter.proofs.Meter.sample.Reads as meter-sample
+use Rattle.meter.proofs.Meter.sample.Kinds as meter-sample-kinds
+use Rattle.meter.proofs.Meter.report.Reads as meter-report
+use Rattle.meter.proofs.Meter.report.Kinds as meter-report-kinds
+use Rattle.phr.proofs.read_file.Reads as read-file
+use Rattle.phr.proofs.read_file.Kinds as read-file-kinds
+use Rattle.phr.proofs.write_file.Reads as write-file
+use Rattle.phr.proofs.write_file.Kinds as write-file-kinds
+use Rattle.ploegelster.specs.Boundary.{toldDot, toldNoise}
+use Rattle.ploegelster.proofs.drawing.plg_noise_type.Reads as plg-noise-type
+use Rattle.ploegelster.proofs.drawing.plg_noise_type.Kinds as plg-noise-type-kinds
+use Rattle.ploegelster.proofs.drawing.plg_noise_of_record.Reads as plg-noise-of-record
+use Rattle.ploegelster.proofs.drawing.plg_noise_of_record.Kinds as plg-noise-of-record-kinds
+use Rattle.ploegelster.proofs.drawing.plg_allan_dot.Reads as plg-allan-dot
+use Rattle.ploegelster.proofs.drawing.plg_allan_dot.Kinds as plg-allan-dot-kinds
+use Rattle.ploegelster.proofs.drawing.plg_time_dot.Reads as plg-time-dot
+use Rattle.ploegelster.proofs.drawing.plg_time_dot.Kinds as plg-time-dot-kinds
+use Rattle.ploegelster.proofs.drawing.plg_bars.Reads as plg-bars
+use Rattle.ploegelster.proofs.drawing.plg_bars.Kinds as plg-bars-kinds
+use Rattle.acceptance.specs.Grounds.{Grounded, OfRange, OfSize, OfRecord, OfFraction, OfDeviation, OfDot, OfPhases, OfDifferences, OfDrift, OfRemoval, OfReadings, OfRecordType, OfDrawn, OfType, OfBars, OfStart, OfSample, OfReport, OfReading, OfWriting}
 use Rattle.acceptance.proofs.Grounding.{refusal-grounded}
 use Rattle.acceptance.proofs.RecordGrounds.{size-agrees, range-agrees, record-agrees, multiple-agrees, sum-grounded}
 use Rattle.acceptance.proofs.FigureGrounds.{fraction-agrees, deviation-agrees, fraction-grounded, deviation-grounded, dot-grounded}
 use Rattle.acceptance.proofs.BufferGrounds.{phases-agree, differences-agree, removal-agrees, count-grounded, drift-grounded}
 use Rattle.acceptance.proofs.ReadingGrounds.{readings-grounded}
-use Rattle.acceptance.proofs.RecordTypeGrounds.{record-type-agrees, type-grounded}
+use Rattle.acceptance.proofs.RecordTypeGrounds.{record-type-agrees}
+use Rattle.acceptance.proofs.TypeGrounds.{drawn-grounded, type-agrees, type-grounded, bars-grounded, alpha-bars-grounded}
+use Rattle.acceptance.proofs.MeterGrounds.{start-grounded, sample-grounded, report-grounded}
+use Rattle.acceptance.proofs.FileGrounds.{reading-grounded, writing-grounded}
 
 -- ---- record
 
@@ -104,20 +134,6 @@ pub time-deviation-grounds : Always 0 time-deviation-kinds.ps time-deviation-kin
 unfolding timeDeviationAnswer timeDenominator
 time-deviation-grounds κs args z w is = rw is (deviation-grounded (deviation-agrees _ _ _ 6 (omega arith)) _)
 
--- ---- plot
-
-pub allan-dot-grounds : Always 0 allan-dot-kinds.ps allan-dot-kinds.r allan-dot.Post
-    (λ κs args z w. let sum = value (args .0) in let m = args .1 .0 in let count = args .1 .1 .0 in
-    Grounded (OfDot sum m count (2 * (m * m) * count)) (z .number) (z .place))
-unfolding allanDotAnswer allanDeviationAnswer allanDenominator
-allan-dot-grounds κs args z w is = rw is (dot-grounded _ _ _ _ (deviation-agrees _ _ _ 2 (omega arith)) _)
-
-pub time-dot-grounds : Always 0 time-dot-kinds.ps time-dot-kinds.r time-dot.Post
-    (λ κs args z w. let sum = value (args .0) in let m = args .1 .0 in let count = args .1 .1 .0 in
-    Grounded (OfDot sum m count (6 * (m * m) * count)) (z .number) (z .place))
-unfolding timeDotAnswer timeDeviationAnswer timeDenominator
-time-dot-grounds κs args z w is = rw is (dot-grounded _ _ _ _ (deviation-agrees _ _ _ 6 (omega arith)) _)
-
 -- ---- frequency
 
 pub phase-from-frequency-grounds : Always 2 phase-from-frequency-kinds.ps phase-from-frequency-kinds.r phase-from-frequency.Post
@@ -145,9 +161,90 @@ pub float-sums-grounds : Always 2 float-sums-kinds.ps float-sums-kinds.r float-s
     Grounded (OfReadings m xs (length buffer)) (z .number) (z .place))
 float-sums-grounds κs args z w is = rw (is .0) (readings-grounded _ _ _)
 
+-- ---- plot
+
+pub allan-dot-grounds : Always 0 allan-dot-kinds.ps allan-dot-kinds.r allan-dot.Post
+    (λ κs args z w. let sum = value (args .0) in let m = args .1 .0 in let count = args .1 .1 .0 in
+    Grounded (OfDot sum m count (2 * (m * m) * count)) (z .number) (z .place))
+unfolding allanDotAnswer allanDeviationAnswer allanDenominator
+allan-dot-grounds κs args z w is = rw is (dot-grounded _ _ _ _ (deviation-agrees _ _ _ 2 (omega arith)) _)
+
+pub time-dot-grounds : Always 0 time-dot-kinds.ps time-dot-kinds.r time-dot.Post
+    (λ κs args z w. let sum = value (args .0) in let m = args .1 .0 in let count = args .1 .1 .0 in
+    Grounded (OfDot sum m count (6 * (m * m) * count)) (z .number) (z .place))
+unfolding timeDotAnswer timeDeviationAnswer timeDenominator
+time-dot-grounds κs args z w is = rw is (dot-grounded _ _ _ _ (deviation-agrees _ _ _ 6 (omega arith)) _)
+
+pub drawn-number-grounds : Always 0 drawn-number-kinds.ps drawn-number-kinds.r drawn-number.Post
+    (λ κs args z w. let r = args .0 in Grounded (OfDrawn r) (z .number) (z .place))
+drawn-number-grounds κs args z w is = rw is (drawn-grounded _)
+
 -- ---- noise
 
 pub noise-of-record-grounds : Always 1 noise-of-record-kinds.ps noise-of-record-kinds.r noise-of-record.Post
     (λ κs args z w. let xs = now (args .0) in let m = args .1 .0 in Grounded (OfRecordType m xs) (z .number) (z .place))
 unfolding recordTypeAnswer
 noise-of-record-grounds κs args z w is = rw is (type-grounded (record-type-agrees _ _) _)
+
+pub noise-type-grounds : Always 0 noise-type-kinds.ps noise-type-kinds.r noise-type.Post
+    (λ κs args z w. let r1 = args .0 in let r2 = args .1 .0 in Grounded (OfType r1 r2) (z .number) (z .place))
+unfolding typeAnswer
+noise-type-grounds κs args z w is = rw is (type-grounded (type-agrees _ _) _)
+
+pub bars-grounds : Always 0 bars-kinds.ps bars-kinds.r bars.Post
+    (λ κs args z w. let r = args .0 in let type = args .1 .0 in let M = args .1 .1 .0 in Grounded (OfBars r (alphaOf type) M) (z .number) (z .place))
+bars-grounds κs args z w is = rw is (bars-grounded _ _ _)
+
+-- ---- meter
+
+pub meter-start-grounds : Always 1 meter-start-kinds.ps meter-start-kinds.r meter-start.Post
+    (λ κs args z w. let m = args .1 .0 in let ring = now (args .1 .1 .0) in Grounded (OfStart m ring) (z .number) (z .place))
+meter-start-grounds κs args z w is = rw is (start-grounded _ _ _)
+
+pub meter-sample-grounds : Always 1 meter-sample-kinds.ps meter-sample-kinds.r meter-sample.Post
+    (λ κs args z w. let x = args .0 in let ring = now (args .1 .0) in let v = args .1 .1 .0 in Grounded (OfSample x ring v) (z .number) (z .place))
+meter-sample-grounds κs args z w is = rw (is .0) (sample-grounded _ _ _)
+
+pub meter-report-grounds : Always 0 meter-report-kinds.ps meter-report-kinds.r meter-report.Post
+    (λ κs args z w. let x = args .0 in Grounded (OfReport x) (z .number) (z .place))
+meter-report-grounds κs args z w is = rw is (report-grounded _)
+
+-- ---- phr
+
+pub read-file-grounds : Always 2 read-file-kinds.ps read-file-kinds.r read-file.Post
+    (λ κs args z w. let bytes = now (args .0) in let buffer = now (args .1 .0) in Grounded (OfReading bytes (length buffer)) (z .number) (z .place))
+read-file-grounds κs args z w is = rw (is .0) (reading-grounded _ _)
+
+pub write-file-grounds : Always 2 write-file-kinds.ps write-file-kinds.r write-file.Post
+    (λ κs args z w. let kind = args .0 in let values = now (args .1 .0) in let buffer = now (args .1 .1 .0) in
+    Grounded (OfWriting kind values (length buffer)) (z .number) (z .place))
+write-file-grounds κs args z w is = rw (is .0) (writing-grounded _ _ _)
+
+-- ---- ploegelster: the functions whose contract is not the entry's own
+
+pub plg-noise-type-grounds : Always 0 plg-noise-type-kinds.ps plg-noise-type-kinds.r plg-noise-type.Post
+    (λ κs args z w. let r1 = args .0 in let r2 = args .1 .0 in Grounded (OfType r1 r2) (z .number) (z .place))
+unfolding toldNoise typeAnswer
+plg-noise-type-grounds κs args z w is = rw is (type-grounded (type-agrees _ _) _)
+
+-- alpha is any whole number
+pub plg-bars-grounds : Always 0 plg-bars-kinds.ps plg-bars-kinds.r plg-bars.Post
+    (λ κs args z w. let r = args .0 in let alpha = args .1 .0 in let M = args .1 .1 .0 in Grounded (OfBars r alpha M) (z .number) (z .place))
+plg-bars-grounds κs args z w is = rw is (alpha-bars-grounded _ _ _)
+
+pub plg-noise-of-record-grounds : Always 1 plg-noise-of-record-kinds.ps plg-noise-of-record-kinds.r plg-noise-of-record.Post
+    (λ κs args z w. let xs = now (args .0) in let m = args .1 .0 in Grounded (OfRecordType m xs) (z .number) (z .place))
+unfolding toldNoise recordTypeAnswer
+plg-noise-of-record-grounds κs args z w is = rw is (type-grounded (record-type-agrees _ _) _)
+
+pub plg-allan-dot-grounds : Always 0 plg-allan-dot-kinds.ps plg-allan-dot-kinds.r plg-allan-dot.Post
+    (λ κs args z w. let sum = value (args .0) in let m = args .1 .0 in let count = args .1 .1 .0 in
+    Grounded (OfDot sum m count (2 * (m * m) * count)) (z .number) (z .place))
+unfolding toldDot allanDotAnswer allanDeviationAnswer allanDenominator
+plg-allan-dot-grounds κs args z w is = rw is (dot-grounded _ _ _ _ (deviation-agrees _ _ _ 2 (omega arith)) _)
+
+pub plg-time-dot-grounds : Always 0 plg-time-dot-kinds.ps plg-time-dot-kinds.r plg-time-dot.Post
+    (λ κs args z w. let sum = value (args .0) in let m = args .1 .0 in let count = args .1 .1 .0 in
+    Grounded (OfDot sum m count (6 * (m * m) * count)) (z .number) (z .place))
+unfolding toldDot timeDotAnswer timeDeviationAnswer timeDenominator
+plg-time-dot-grounds κs args z w is = rw is (dot-grounded _ _ _ _ (deviation-agrees _ _ _ 6 (omega arith)) _)

@@ -3,7 +3,6 @@ pub mod RecordGrounds
 pub mod TypeGrounds
 pub mod MeterGrounds
 pub mod FileGrounds
-pub mod EntryGrounds
 pub mod FigureGrounds
 pub mod BufferGrounds
 pub mod ReadingGrounds
@@ -12,7 +11,8 @@ pub mod Grounds
 pub mod Figures
 pub mod NoughtLaws
 pub mod PromiseLaws
-pub mod BoundLaws
+pub mod AnyCalls
+pub mod LatestOnly
 pub mod Condition1
 pub mod Condition2
 pub mod Condition3

@@ -8,9 +8,9 @@ use lib.Dec.{leb, eqb}
 use lib.Ieee.{Float}
 use lib.IntN.{ℤ, pos, negsuc}
 use lib.ListN.{length, getD, set}
-use lib.Seq.{getD-set-other}
-use Rattle.laws.specs.Lists.{written}
-use borrow.Author.Tests.{ne-eqb}
+use lib.Seq.{getD-set-same, getD-set-other}
+use Rattle.laws.specs.Lists.{at, written}
+use borrow.Author.Tests.{ne-eqb, eqb-true, eqb-false}
 use Rattle.laws.proofs.ListLaws.{written-past}
 use Rattle.record.specs.Answers.{countAnswer, bufferLeft}
 use Rattle.wide.specs.Wide.{value}
@@ -24,26 +24,28 @@ use Rattle.readings.specs.Readings.{samplesOf}
 use Rattle.readings.proofs.RefusalLaws.{samples-length}
 use Rattle.readings.specs.Answers.{floatRefusal, floatAnswer, floatBuffer}
 use Rattle.readings.specs.declared.FloatSums.{FloatSums}
-use Rattle.meter.specs.Meter.{holdsTogether, ringWith}
+use Rattle.meter.specs.Meter.{holdsTogether, withSample, ringWith}
 use Rattle.meter.specs.Answers.{meterAnswer, sampleRefusal, sampleAnswer, ringLeft, reportAnswer}
 use Rattle.meter.specs.declared.Meter.{Meter}
+use Rattle.meter.specs.declared.MeterAnswer.{MeterAnswer}
+use Rattle.meter.proofs.TestLaws.{holds-together, slot-inside, ring-holds, let-in-by-number}
 use Rattle.meter.specs.declared.Report.{Report}
 use Rattle.phr.specs.Reading.{readRefusal, readAnswer, readBuffer, kindOf, valuesOf, countOf}
 use Rattle.phr.proofs.ReadCases.{values-of-length}
 use Rattle.phr.specs.declared.ReadAnswer.{ReadAnswer}
-use Rattle.plot.specs.Drawn.{drawnRefusal, drawnAnswer}
+use Rattle.plot.specs.Drawn.{plusZero, drawnRefusal, drawnAnswer}
 use Rattle.plot.specs.Dots.{dotNumber, dotValue, dotAnswer}
 use Rattle.ploegelster.specs.Boundary.{dotKind, toldDot}
 use Rattle.variances.specs.declared.DeviationAnswer.{DeviationAnswer}
-use Rattle.acceptance.specs.Noughts.{Refused, CountNought, ReadNought, SumNought, PartValuesNought, FloatNought, ReportNought, DriftNought, DrawnNought, DotNought, ToldDotNought}
 use Rattle.variances.specs.Fractions.{Fraction}
 use Rattle.variances.specs.Answers.{fractionAnswer, deviationAnswer}
 use Rattle.noise.specs.Noise.{noiseAnswer}
 use Rattle.noise.specs.Bars.{noBar, barsRefusal, barsAnswer}
 use Rattle.noise.specs.declared.Noise.{Noise}
+use Rattle.noise.specs.declared.Noise.the-variants.{WhitePhase}
 use Rattle.noise.specs.declared.NoiseAnswer.{NoiseAnswer}
 use Rattle.ploegelster.specs.Boundary.{toldNoise, noSuchType, barsByAlpha}
-use Rattle.acceptance.specs.Noughts.{FractionNought, DeviationNought, NoiseNought, ToldNoiseNought, BarsNought}
+use Rattle.acceptance.specs.Noughts.{Refused, SumNought, PartsNought, PartsApart, DotNought, BarsNought}
 
 -- ---- a count and its buffer
 
@@ -52,7 +54,7 @@ by-refusal : (r : Refusal) {number : ℕ} → (r .number ≡ 0 → number ≡ 0)
 by-refusal r answered some = ne-eqb (r .number) 0 (λ nothing. some (answered nothing))
 
 module _ {A : Type 0} (r : Refusal) (n : ℕ) (out buffer : List A) where
-  pub count-noughts : Refused (countAnswer r n .number) → CountNought (countAnswer r n) × (bufferLeft r out buffer ≡ buffer)
+  pub count-noughts : Refused (countAnswer r n .number) → (countAnswer r n .count ≡ 0) × (bufferLeft r out buffer ≡ buffer)
   unfolding countAnswer bufferLeft
   count-noughts some = rw (by-refusal r (λ nothing. rw nothing) some) (refl, refl)
 
@@ -69,9 +71,9 @@ module _ {A : Type 0} (r : Refusal) (n : ℕ) (out buffer : List A) where
 -- ---- a file that is read
 
 module _ (bytes : List ℕ) (buffer : List ℤ) where
-  pub read-noughts : Refused (readAnswer bytes (length buffer) .number) → ReadNought (readAnswer bytes (length buffer)) × (readBuffer bytes buffer ≡ buffer)
+  pub read-noughts : Refused (readAnswer bytes (length buffer) .number) → (readAnswer bytes (length buffer) .kind ≡ 0) × (readAnswer bytes (length buffer) .count ≡ 0) × (readBuffer bytes buffer ≡ buffer)
   unfolding readAnswer bufferLeft
-  read-noughts some = rw (by-refusal (readRefusal bytes (length buffer)) (λ nothing. rw nothing) some) ((refl, refl), refl)
+  read-noughts some = rw (by-refusal (readRefusal bytes (length buffer)) (λ nothing. rw nothing) some) (refl, refl, refl)
 
   pub past-the-values : (i : ℕ) (e : ℤ) → readAnswer bytes (length buffer) .count ≤ i → getD (readBuffer bytes buffer) i e ≡ getD buffer i e
   unfolding readAnswer bufferLeft
@@ -89,24 +91,23 @@ module _ (bytes : List ℕ) (buffer : List ℤ) where
 
 -- ---- sums and answers of two parts
 
-pub sum-noughts : (r : Refusal) (s count : ℕ) → Refused (sumAnswer r s count .number) → SumNought (sumAnswer r s count)
+pub sum-noughts : (r : Refusal) (s count : ℕ) → Refused (sumAnswer r s count .number) → SumNought (sumAnswer r s count .sum) (sumAnswer r s count .count)
 unfolding sumAnswer
 sum-noughts r s count some = rw (by-refusal r (λ nothing. rw nothing) some) (refl, refl)
 
-pub part-noughts : (due : Bool) (s count : ℕ) → Refused (partOf due s count .number) → PartValuesNought (partOf due s count)
+pub part-noughts : (due : Bool) (s count : ℕ) → Refused (partOf due s count .number) → SumNought (partOf due s count .sum) (partOf due s count .count)
 unfolding partOf
 part-noughts true s count some = absurd (some refl)
 part-noughts false s count some = (refl, refl)
 
 module _ (m : ℕ) (xs : List Float) (buffer : List ℤ) where
-  pub float-noughts : Refused (floatAnswer m xs (length buffer) .number) → FloatNought (floatAnswer m xs (length buffer)) × (floatBuffer m xs buffer ≡ buffer)
+  pub float-noughts : Refused (floatAnswer m xs (length buffer) .number) → PartsNought (floatAnswer m xs (length buffer) .allan) (floatAnswer m xs (length buffer) .modified) × (floatBuffer m xs buffer ≡ buffer)
   unfolding floatAnswer bufferLeft noPart
   float-noughts some =
       rw (by-refusal (floatRefusal m xs (length buffer)) (λ nothing. rw nothing) some) (((refl, (refl, refl)), (refl, (refl, refl))), refl)
 
   -- a 1 for one part alone
-  pub float-part-noughts : (Refused (floatAnswer m xs (length buffer) .allan .number) → PartValuesNought (floatAnswer m xs (length buffer) .allan))
-      × (Refused (floatAnswer m xs (length buffer) .modified .number) → PartValuesNought (floatAnswer m xs (length buffer) .modified))
+  pub float-part-noughts : PartsApart (floatAnswer m xs (length buffer) .allan) (floatAnswer m xs (length buffer) .modified)
   unfolding floatAnswer noPart
   float-part-noughts = by-number (eqb (r .number) 0)
     where
@@ -124,15 +125,14 @@ module _ (m : ℕ) (xs : List Float) (buffer : List ℤ) where
           })
           (record { number = r .number; place = r .place; allan = noPart; modified = noPart })
 
-      by-number : (t : Bool) → (Refused (answer t .allan .number) → PartValuesNought (answer t .allan))
-          × (Refused (answer t .modified .number) → PartValuesNought (answer t .modified))
+      by-number : (t : Bool) → PartsApart (answer t .allan) (answer t .modified)
       by-number true = (part-noughts _ _ _, part-noughts _ _ _)
       by-number false = (λ some. (refl, refl), λ some. (refl, refl))
 
   pub past-the-samples : (i : ℕ) (e : ℤ) → length xs ≤ i → getD (floatBuffer m xs buffer) i e ≡ getD buffer i e
   past-the-samples i e past = past-unchanged _ (samplesOf xs) buffer i e (omega (arith, samples-length xs))
 
-pub report-noughts : (x : Meter) → Refused (reportAnswer x .number) → ReportNought (reportAnswer x)
+pub report-noughts : (x : Meter) → Refused (reportAnswer x .number) → PartsNought (reportAnswer x .allan) (reportAnswer x .modified)
 unfolding reportAnswer noPart
 report-noughts x some = rw (falls (holdsTogether x) refl) ((refl, (refl, refl)), (refl, (refl, refl)))
   where
@@ -140,8 +140,7 @@ report-noughts x some = rw (falls (holdsTogether x) refl) ((refl, (refl, refl)),
     falls true e = absurd (some (rw e))
     falls false e = refl
 
-pub report-part-noughts : (x : Meter) → (Refused (reportAnswer x .allan .number) → PartValuesNought (reportAnswer x .allan))
-    × (Refused (reportAnswer x .modified .number) → PartValuesNought (reportAnswer x .modified))
+pub report-part-noughts : (x : Meter) → PartsApart (reportAnswer x .allan) (reportAnswer x .modified)
 unfolding reportAnswer noPart
 report-part-noughts x = by-test (holdsTogether x)
   where
@@ -156,14 +155,13 @@ report-part-noughts x = by-test (holdsTogether x)
         })
         (record { number = 7; place = 0; allan = noPart; modified = noPart })
 
-    by-test : (t : Bool) → (Refused (answer t .allan .number) → PartValuesNought (answer t .allan))
-        × (Refused (answer t .modified .number) → PartValuesNought (answer t .modified))
+    by-test : (t : Bool) → PartsApart (answer t .allan) (answer t .modified)
     by-test true = (part-noughts _ _ _, part-noughts _ _ _)
     by-test false = (λ some. (refl, refl), λ some. (refl, refl))
 
 -- ---- drift
 
-pub drift-noughts : (xs : List ℤ) → Refused (driftAnswer xs .number) → DriftNought (driftAnswer xs)
+pub drift-noughts : (xs : List ℤ) → Refused (driftAnswer xs .number) → (driftAnswer xs .p ≡ pos 0) × (driftAnswer xs .r ≡ 0)
 unfolding driftAnswer
 drift-noughts xs some = rw (by-refusal (driftRefusal xs) (λ nothing. rw nothing) some) (refl, refl)
 
@@ -187,38 +185,55 @@ module _ (x : Meter) (ring : List ℤ) (v : ℤ) where
       by-number true = getD-set-other ring (x .n % (3 * x .m)) i v e other
       by-number false = refl
 
+  -- and there it stands
+  pub own-slot-written : sampleAnswer x ring v .number ≡ 0 → at (ringLeft x ring v) (x .n % (3 * x .m)) ≡ v
+  unfolding sampleAnswer meterAnswer ringLeft ringWith
+  own-slot-written answered = by-number (eqb (r .number) 0) refl answered
+    where
+      r : Refusal
+      r = sampleRefusal x ring v
+
+      by-number : (t : Bool) → eqb (r .number) 0 ≡ t →
+          cond {A = MeterAnswer} t (record { number = 0; place = 0; meter = withSample x ring v }) (record { number = r .number; place = r .place; meter = x }) .number ≡ 0 →
+          at (cond t (set ring (x .n % (3 * x .m)) v) ring) (x .n % (3 * x .m)) ≡ v
+      by-number true e given =
+          let known = let-in-by-number x ring v (eqb-true (r .number) 0 e) in
+          let factor = holds-together x (known .meter-holds) .factor-least in
+          getD-set-same ring _ v (pos 0) (slot-inside (x .m) (x .n) (length ring) factor (ring-holds x ring (known .ring-holds) .long))
+      by-number false e refused = absurd (eqb-false (r .number) 0 e refused)
+
 -- ---- what is drawn
 
-pub drawn-noughts : (r : ℕ) → Refused (drawnAnswer r .number) → DrawnNought (drawnAnswer r)
+pub drawn-noughts : (r : ℕ) → Refused (drawnAnswer r .number) → drawnAnswer r .value ≡ plusZero
 unfolding drawnAnswer
 drawn-noughts r some = rw (by-refusal (drawnRefusal r) (λ nothing. rw nothing) some) refl
 
-pub dot-noughts : (d : DeviationAnswer) → Refused (dotAnswer d .number) → DotNought (dotAnswer d)
+pub dot-noughts : (d : DeviationAnswer) → Refused (dotAnswer d .number) → DotNought (dotAnswer d .dot)
 unfolding dotAnswer dotNumber dotValue
 dot-noughts d some = rw (ne-eqb (d .number) 0 (λ nothing. some (rw nothing)), ne-eqb (d .number) 1 (λ few. some (rw few))) (refl, refl, refl)
 
 -- as C has it
-pub told-dot-noughts : (d : DeviationAnswer) → Refused (toldDot (dotAnswer d) .number) → ToldDotNought (toldDot (dotAnswer d))
+pub told-dot-noughts : (d : DeviationAnswer) → Refused (toldDot (dotAnswer d) .number) → (toldDot (dotAnswer d) .kind ≡ 0) × (toldDot (dotAnswer d) .value ≡ plusZero)
 unfolding toldDot dotKind dotValue
 told-dot-noughts d some = rw (dot-noughts d some .0) (refl, refl)
 
 -- ---- fractions and deviations
 
-pub fraction-noughts : (r : Refusal) (f : Fraction) → Refused (fractionAnswer r f .number) → FractionNought (fractionAnswer r f)
+pub fraction-noughts : (r : Refusal) (f : Fraction) → Refused (fractionAnswer r f .number) → SumNought (fractionAnswer r f .numerator) (fractionAnswer r f .denominator)
 unfolding fractionAnswer
 fraction-noughts r f some = rw (by-refusal r (λ nothing. rw nothing) some) (refl, refl)
 
-pub deviation-noughts : (r : Refusal) (d : ℕ) → Refused (deviationAnswer r d .number) → DeviationNought (deviationAnswer r d)
+pub deviation-noughts : (r : Refusal) (d : ℕ) → Refused (deviationAnswer r d .number) → deviationAnswer r d .deviation ≡ 0
 unfolding deviationAnswer
 deviation-noughts r d some = rw (by-refusal r (λ nothing. rw nothing) some) refl
 
 -- ---- noise types and bars
 
-pub noise-noughts : (r : Refusal) (t : Noise) → Refused (noiseAnswer r t .number) → NoiseNought (noiseAnswer r t)
+pub noise-noughts : (r : Refusal) (t : Noise) → Refused (noiseAnswer r t .number) → noiseAnswer r t .noise ≡ WhitePhase
 unfolding noiseAnswer
 noise-noughts r t some = rw (by-refusal r (λ nothing. rw nothing) some) refl
 
-pub told-noise-noughts : (a : NoiseAnswer) → Refused (toldNoise a .number) → ToldNoiseNought (toldNoise a)
+pub told-noise-noughts : (a : NoiseAnswer) → Refused (toldNoise a .number) → toldNoise a .alpha ≡ pos 0
 unfolding toldNoise
 told-noise-noughts a some = rw (ne-eqb (a .number) 0 some) refl
 

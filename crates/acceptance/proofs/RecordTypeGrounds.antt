@@ -1,5 +1,5 @@
 -- The refusal of a record's noise type agrees with its table of grounds: no deviation of a record is above 2^62, so that no 3 of two deviations stands.
-use mathlib.Core.Path.{_≡_, refl, ap, subst, _∙_}
+use mathlib.Core.Path.{_≡_, ap, subst, _∙_}
 use mathlib.Core.List.{List}
 use Prim.Native.Nat.{ℕ, _+_, _-_, _*_, _^_, _≤_}
 use native.Mathlib.Omega.{arith}
@@ -10,20 +10,17 @@ use lib.ListN.{length}
 use Rattle.laws.specs.Greatest.{Greatest}
 use Rattle.laws.proofs.GreatestLaws.{one-greatest}
 use Rattle.record.specs.Refusals.{none, refusedIf, _then_, recordRefusal}
-use Rattle.record.specs.declared.Refusal.{Refusal}
 use Rattle.record.proofs.RefusalLaws.{Sound, none-sound}
 use Rattle.sums.specs.Published.{modifiedSum, modifiedCount, timeDenominator}
 use Rattle.sums.specs.Answers.{modifiedDemand}
 use Rattle.variances.specs.Deviations.{within}
 use Rattle.variances.proofs.DeviationLaws.{deviation-is-greatest}
 use Rattle.variances.proofs.Bounds.{modified-allowed, time-denominator-above-nought, time-deviation-within}
-use Rattle.noise.specs.Noise.{noiseRefusal, noiseAnswer, noiseDemand, timeDeviation}
-use Rattle.noise.specs.declared.Noise.{Noise}
-use Rattle.noise.specs.declared.NoiseAnswer.{NoiseAnswer}
-use Rattle.noise.proofs.NoiseLaws.{sound-at-factor, sound-at-double, givenType, noType}
+use Rattle.noise.specs.Noise.{noiseRefusal, noiseDemand, timeDeviation}
+use Rattle.noise.proofs.NoiseLaws.{sound-at-factor, sound-at-double}
 use Rattle.acceptance.specs.Grounds
-use Rattle.acceptance.specs.Grounds.{Grounded, OfRecord, OfRecordType}
-use Rattle.acceptance.proofs.Grounding.{Decided, Stands, Agrees, decide-last, decide-after, decided-by, stands-first, stands-later, rowless-none, none-rowless, grounded-answer}
+use Rattle.acceptance.specs.Grounds.{OfRecord, OfRecordType}
+use Rattle.acceptance.proofs.Grounding.{Decided, Stands, Agrees, decide-last, decide-after, decided-by, stands-first, stands-later, rowless-none, none-rowless}
 use Rattle.acceptance.proofs.RecordGrounds.{multiple-agrees}
 
 -- of two deviations that are not above 2^62 nothing but the nought is refused
@@ -82,10 +79,3 @@ module _ (m : ℕ) (xs : List ℤ) where
 
   pub record-type-agrees : Agrees (OfRecordType m xs) (recordRefusal noiseDemand m xs then noiseRefusal r1 r2)
   record-type-agrees = record { stands = record-type-stands; decided = record-type-decided }
-
--- ---- the answer
-
-pub type-grounded : {Row : ℕ → ℕ → Type 0} {r : Refusal} → Agrees Row r → (t : Noise) → Grounded Row (noiseAnswer r t .number) (noiseAnswer r t .place)
-unfolding noiseAnswer
-type-grounded {r = r} agrees t =
-    grounded-answer agrees (λ (z : NoiseAnswer). z .number) (λ (z : NoiseAnswer). z .place) (givenType t) (noType r) (refl, refl) (refl, refl)

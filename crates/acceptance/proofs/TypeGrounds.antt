@@ -9,8 +9,9 @@ use lib.Dec.{leb}
 use lib.IntN.{ℤ, pos, negsuc, natAbs}
 use Rattle.laws.proofs.Tests.{second-true, second-fails}
 use Rattle.record.specs.Refusals.{refused}
+use Rattle.record.specs.declared.Refusal.{Refusal}
 use Rattle.plot.specs.Drawn.{drawnRefusal, drawnAnswer}
-use Rattle.noise.specs.Noise.{alphaOf, noiseRefusal, noiseAnswer, typeAnswer}
+use Rattle.noise.specs.Noise.{alphaOf, noiseRefusal, noiseAnswer}
 use Rattle.noise.specs.Bars.{barsRefusal, barsAnswer}
 use Rattle.noise.specs.declared.Noise.{Noise}
 use Rattle.noise.specs.declared.NoiseAnswer.{NoiseAnswer}
@@ -18,6 +19,7 @@ use Rattle.noise.specs.declared.bars.BarsAnswer.{BarsAnswer}
 use Rattle.plot.specs.declared.drawn.DrawnAnswer.{DrawnAnswer}
 use Rattle.noise.specs.declared.Noise.the-variants.{WhitePhase, FlickerPhase, WhiteFrequency, FlickerFrequency, RandomWalkFrequency}
 use Rattle.noise.proofs.NoiseLaws as types
+use Rattle.noise.proofs.NoiseLaws.{givenType, noType}
 use Rattle.noise.proofs.BarLaws as bar
 use Rattle.ploegelster.specs.Boundary.{noSuchType, barsByAlpha}
 use Rattle.acceptance.specs.Grounds
@@ -78,12 +80,14 @@ module _ (r1 r2 : ℕ) where
       (λ f. decide-last _ 8 0 (omega arith)
       (λ t. Grounds.nought (eqb-true r1 0 t) (leb-true r2 (2 ^ 62) (second-true (leb r1 (2 ^ 62)) _ (not-false _ f)))))
 
-  type-agrees : Agrees (OfType r1 r2) (noiseRefusal r1 r2)
+  pub type-agrees : Agrees (OfType r1 r2) (noiseRefusal r1 r2)
   type-agrees = record { stands = type-stands; decided = type-decided }
 
-  pub type-grounded : Grounded (OfType r1 r2) (typeAnswer r1 r2 .number) (typeAnswer r1 r2 .place)
-  unfolding typeAnswer noiseAnswer
-  type-grounded = grounded-answer type-agrees (λ (a : NoiseAnswer). a .number) (λ a. a .place) _ _ (refl, refl) (refl, refl)
+-- the answer, of two deviations or of a record
+pub type-grounded : {Row : ℕ → ℕ → Type 0} {r : Refusal} → Agrees Row r → (t : Noise) → Grounded Row (noiseAnswer r t .number) (noiseAnswer r t .place)
+unfolding noiseAnswer
+type-grounded {r = r} agrees t =
+    grounded-answer agrees (λ (z : NoiseAnswer). z .number) (λ (z : NoiseAnswer). z .place) (givenType t) (noType r) (refl, refl) (refl, refl)
 
 -- ---- bars: 3 for an alpha of no type, 8, 3, 1, 2
 
@@ -123,7 +127,7 @@ module _ (r : ℕ) (alpha : ℤ) (m : ℕ) where
         decide _ 1 0 (omega arith) (λ t. Grounds.few within (omega arith, most) (ltb-true m 10 t)) _
         (λ enough. decide-last _ 2 0 (omega arith) (λ t. Grounds.many within (omega arith, most) (ltb-true 32767 m t)))))
 
-    bars-agree : Agrees (OfBars r alpha m) (barsRefusal r m)
+    pub bars-agree : Agrees (OfBars r alpha m) (barsRefusal r m)
     bars-agree = record { stands = bars-stand; decided = bars-decided }
 
     bars-within-grounded : (t : Noise) → Grounded (OfBars r alpha m) (barsAnswer r t m .number) (barsAnswer r t m .place)
@@ -131,7 +135,7 @@ module _ (r : ℕ) (alpha : ℤ) (m : ℕ) where
     bars-within-grounded t = grounded-answer bars-agree (λ (a : BarsAnswer). a .number) (λ a. a .place) _ _ (refl, refl) (refl, refl)
 
 -- the alpha of a type is never beyond 2
-alpha-within : (t : Noise) → natAbs (alphaOf t) ≤ 2
+pub alpha-within : (t : Noise) → natAbs (alphaOf t) ≤ 2
 unfolding alphaOf
 alpha-within WhitePhase = omega arith
 alpha-within FlickerPhase = omega arith

@@ -3,7 +3,4 @@ pub mod ArithmeticLaws
 pub mod AnswerLaws
 pub mod Stream
 pub mod Running
-pub mod Trace
-pub mod AnyCalls
-pub mod LatestOnly
 pub mod Unique

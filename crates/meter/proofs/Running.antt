@@ -20,15 +20,26 @@ use Rattle.wide.proofs.WideLaws.{value-of-halves}
 use Rattle.record.specs.Refusals.{none, refusedIf, _then_, inRange}
 use Rattle.record.proofs.RefusalLaws.{in-range-bounded, first-refuses-nothing, rest-refuses-nothing, test-fails}
 use Rattle.sums.specs.Published.{difference, allanSum, allanCount, modifiedSum, modifiedCount}
+use Rattle.sums.specs.Answers.{partOf}
 use Rattle.sums.proofs.PublishedLaws.{allan-so-far-below, modified-so-far-below, allan-sum-is, modified-sum-is}
 use Rattle.meter.specs.Meter.{factorFits, holdsTogether, slot, ringHolds, newDifference, oldDifference, newWindow, withSample, ringWith, started}
-use Rattle.meter.specs.Answers.{startRefusal, sampleRefusal, reportAnswer, publishedReport}
+use Rattle.meter.specs.Answers.{startRefusal, sampleRefusal, reportAnswer}
 use Rattle.meter.specs.declared.Meter.{Meter}
+use Rattle.meter.specs.declared.Report.{Report}
 use Rattle.meter.proofs.Stream.{latest, latest-within, no-allan-sum, no-modified-sum, none-latest, one-longer, old-sample, new-sample, allan-waits, allan-grows, modified-waits, modified-grows, latest-waits, latest-grows, latest-slides}
 
 -- the meter that was started at factor m and has taken samples h
 abbrev pub meterAfter : ℕ → List ℤ → Meter
 meterAfter m h = record { m = m; n = length h; a = halves (allanSum m h); b = halves (modifiedSum m h); window = latest m h }
+
+-- what the published formulas give of samples xs at factor m, in a report's form
+unfoldable pub publishedReport : ℕ → List ℤ → Report
+publishedReport m xs = record {
+  number = 0;
+  place = 0;
+  allan = partOf (leb (2 * m + 1) (length xs)) (allanSum m xs) (allanCount m xs);
+  modified = partOf (leb (3 * m) (length xs)) (modifiedSum m xs) (modifiedCount m xs);
+}
 
 -- what is known of m and h, and of the ring: it keeps the latest 3m samples
 pub record Running (m : ℕ) (ring h : List ℤ) : Type 0 where

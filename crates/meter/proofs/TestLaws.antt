@@ -209,14 +209,13 @@ pub record LetIn (x : Meter) (ring : List ℤ) (v : ℤ) : Type 0 where
   pub room : x .n < 32768
   pub sample-within : natAbs v ≤ 2 ^ 40
 
-pub let-in : (x : Meter) (ring : List ℤ) (v : ℤ) → sampleRefusal x ring v ≡ none → LetIn x ring v
+pub let-in-by-number : (x : Meter) (ring : List ℤ) (v : ℤ) → sampleRefusal x ring v .number ≡ 0 → LetIn x ring v
 unfolding sampleRefusal
-let-in x ring v e =
+let-in-by-number x ring v unrefused =
     let good = holdsTogether x && ringHolds x ring in
     let bad = refusedIf (not good) 7 0 in
     let full = refusedIf (eqb (x .n) 32768) 2 0 in
     let out = refusedIf (not (inRange v)) 3 0 in
-    let unrefused = ap (λ (r : Refusal). r .number) e in
     let rest = rest-refuses-nothing bad (full then out) unrefused in
     let both = not-false good (test-fails (not good) 7 0 (omega arith) (first-refuses-nothing bad (full then out) unrefused)) in
     let meter = first-true (holdsTogether x) (ringHolds x ring) both in
@@ -226,6 +225,9 @@ let-in x ring v e =
       room = omega (arith, holds-together x meter .not-too-many);
       sample-within = sample-bounded v (not-false (inRange v) (test-fails _ 3 0 (omega arith) (rest-refuses-nothing full out rest)));
     }
+
+pub let-in : (x : Meter) (ring : List ℤ) (v : ℤ) → sampleRefusal x ring v ≡ none → LetIn x ring v
+let-in x ring v nothing = let-in-by-number x ring v (ap (λ (r : Refusal). r .number) nothing)
 
 pub slots-lie-where-let-in : (x : Meter) (ring : List ℤ) (v : ℤ) → sampleRefusal x ring v ≡ none → (1 ≤ x .m) × (x .m ≤ 10922) × (3 * x .m ≤ length ring)
 slots-lie-where-let-in x ring v unrefused =

@@ -8,7 +8,6 @@ use lib.ListN.{length}
 use Rattle.wide.specs.Wide.{value}
 use Rattle.record.specs.Refusals.{refusedIf, _then_, inRange}
 use Rattle.record.specs.declared.Refusal.{Refusal}
-use Rattle.sums.specs.Published.{allanSum, allanCount, modifiedSum, modifiedCount}
 use Rattle.sums.specs.Answers.{partOf, noPart}
 use Rattle.meter.specs.Meter.{factorFits, holdsTogether, ringHolds, withSample, ringWith, started}
 use Rattle.meter.specs.declared.Meter.{Meter}
@@ -54,12 +53,3 @@ reportAnswer x =
       modified = partOf (leb (3 * x .m) (x .n)) (value (x .b)) (x .n + 1 - 3 * x .m);
     })
     (record { number = 7; place = 0; allan = noPart; modified = noPart })
-
--- what the published formulas give of samples xs at factor m, in a report's form
-unfoldable pub publishedReport : ℕ → List ℤ → Report
-publishedReport m xs = record {
-  number = 0;
-  place = 0;
-  allan = partOf (leb (2 * m + 1) (length xs)) (allanSum m xs) (allanCount m xs);
-  modified = partOf (leb (3 * m) (length xs)) (modifiedSum m xs) (modifiedCount m xs);
-}

@@ -17,13 +17,13 @@ use Rattle.laws.proofs.Tests.{choices-agree}
 use Rattle.wide.specs.Wide.{value, halves}
 use Rattle.record.specs.Refusals.{inRange}
 use Rattle.record.specs.declared.Refusal.{Refusal}
 use Rattle.meter.specs.Meter.{slot, ringHolds, newDifference, oldDifference, newWindow, withSample, ringWith}
 use Rattle.meter.specs.Answers.{meterAnswer, sampleRefusal, sampleAnswer, ringLeft}
 use Rattle.meter.specs.declared.Meter.{Meter}
 use Rattle.meter.specs.declared.MeterAnswer.{MeterAnswer}
 use Rattle.meter.proofs.Running.{meterAfter, Running}
-use Rattle.meter.proofs.Trace.{Samples, sample-answers, Trace}
-use Rattle.meter.proofs.AnyCalls.{trace-runs}
+use Rattle.acceptance.specs.Calls.{Samples, Trace, Run, done, next}
+use Rattle.acceptance.proofs.AnyCalls.{sample-answers, trace-runs}
 
 -- ---- one call
 
@@ -82,11 +82,6 @@ module _ {x : Meter} {ring ring′ : List ℤ} (same : SameRead x ring ring′) 
 
 -- ---- a run of sample calls
 
--- the answers, each call given the meter and the ring as the call before left them
-unfoldable pub answers : Meter → List ℤ → List ℤ → List MeterAnswer
-answers x ring [] = []
-answers x ring (v ∷ vs) = sampleAnswer x ring v ∷ answers (sampleAnswer x ring v .meter) (ringLeft x ring v) vs
-
 -- two rings, neither shorter than 3m, agree on the slots of the latest 3m samples, all of them while there are fewer
 pub record SameLatest (x : Meter) (ring ring′ : List ℤ) : Type 0 where
   pub factor-least : 1 ≤ x .m
@@ -130,21 +125,22 @@ module _ {x : Meter} {ring ring′ : List ℤ} (same : SameLatest x ring ring′
         by-test true = accepted-same-latest
         by-test false = same
 
--- every sample call from then on answers the same
-pub same-latest-same-answers : (x : Meter) (ring ring′ : List ℤ) → SameLatest x ring ring′ → (vs : List ℤ) → answers x ring vs ≡ answers x ring′ vs
-unfolding answers
-same-latest-same-answers x ring ring′ same [] = refl
-same-latest-same-answers x ring ring′ same (v ∷ vs) =
-    let first = same-read-same-answer (same-latest-same-read same) v in
-    ap₂ _∷_ first
-    (same-latest-same-answers _ _ _ (next-same-latest same v) vs ∙ ap (λ (z : MeterAnswer). answers (z .meter) (ringLeft x ring′ v) vs) first)
-
 -- ---- by the contracts
 
 -- A sample call answers the same of two rings that agree on the slots that it reads.
 pub only-read-slots-matter : {x : Meter} {ring ring′ left left′ : List ℤ} {v : ℤ} {z z′ : MeterAnswer} → SameRead x ring ring′ →
     Samples x ring v z left → Samples x ring′ v z′ left′ → z ≡ z′
 only-read-slots-matter {v = v} same call call′ = sample-answers call .0 ∙ same-read-same-answer same v ∙ sym (sample-answers call′ .0)
+
+-- Every sample call from then on answers the same.
+pub same-latest-same-answers : {x : Meter} {ring ring′ vs : List ℤ} {zs zs′ : List MeterAnswer} → SameLatest x ring ring′ →
+    Run x ring vs zs → Run x ring′ vs zs′ → zs ≡ zs′
+same-latest-same-answers same done done = refl
+same-latest-same-answers {x} {ring} {ring′} same (next {v = v} call later) (next call′ later′) =
+    let first = only-read-slots-matter (same-latest-same-read same) call call′ in
+    let after = next-same-latest same v in
+    ap₂ _∷_ first
+    (same-latest-same-answers (rw (← sample-answers call .0, ← sample-answers call .1, ← sample-answers call′ .1) at after) later (rw (← first) at later′))
 
 running-same-latest : {m : ℕ} {ring ring′ h : List ℤ} → Running m ring h → Running m ring′ h → SameLatest (meterAfter m h) ring ring′
 unfolding slot
@@ -158,8 +154,10 @@ running-same-latest run run′ = record {
 -- Two meters that were started at one factor and have accepted the same samples since are equal, and answer all later samples the same, whatever
 -- calls came before and whatever else stands in their rings.
 pub same-samples-same-answers : {x x′ : Meter} {ring ring′ h : List ℤ} {m : ℕ} → Trace x ring m h → Trace x′ ring′ m h → 1 ≤ m →
-    (x ≡ x′) × ((vs : List ℤ) → answers x ring vs ≡ answers x′ ring′ vs)
+    (x ≡ x′) × ((vs : List ℤ) (zs zs′ : List MeterAnswer) → Run x ring vs zs → Run x′ ring′ vs zs′ → zs ≡ zs′)
 same-samples-same-answers {m = m} t t′ started =
     let now = trace-runs t started in
-    let now′ = trace-runs t′ started in
-    (now .0 ∙ sym (now′ .0), λ vs. rw (now .0, now′ .0) (same-latest-same-answers _ _ _ (running-same-latest (now .1) (now′ .1)) vs))
+    let now′ = trace-runs t′ started in (
+      now .0 ∙ sym (now′ .0),
+      λ vs zs zs′ run run′. same-latest-same-answers (running-same-latest (now .1) (now′ .1)) (rw (now .0) at run) (rw (now′ .0) at run′),
+    )

@@ -14,14 +14,27 @@ use Rattle.record.specs.Refusals.{inRange}
 use Rattle.record.specs.declared.Refusal.{Refusal}
 use Rattle.sums.specs.Published.{allanCount, modifiedCount}
 use Rattle.sums.proofs.Shifted.{Shifted, shifted-allan-sum, shifted-modified-sum}
 use Rattle.meter.specs.Meter.{factorFits, holdsTogether, ringWith}
 use Rattle.sums.specs.Answers.{partOf, noPart}
-use Rattle.meter.specs.Answers.{meterAnswer, startRefusal, startAnswer, sampleRefusal, sampleAnswer, ringLeft, reportAnswer, publishedReport}
+use Rattle.meter.specs.Answers.{meterAnswer, startRefusal, startAnswer, sampleRefusal, sampleAnswer, ringLeft, reportAnswer}
 use Rattle.meter.specs.declared.Meter.{Meter}
 use Rattle.meter.specs.declared.MeterAnswer.{MeterAnswer}
 use Rattle.meter.specs.declared.Report.{Report}
-use Rattle.meter.proofs.Running.{meterAfter, Running, start-unrefused, starts-running, started-is, takes, taken-was-allowed, reports, with-sample-is, runs-on}
-use Rattle.meter.proofs.Trace.{Starts, Samples, Reports, start-answers, sample-answers, report-answers, Accepted, Refused, Trace, begin, start-accepted, start-refused, sample-accepted, sample-refused, reported}
+use Rattle.meter.proofs.Running.{meterAfter, publishedReport, Running, start-unrefused, starts-running, started-is, takes, taken-was-allowed, reports, with-sample-is, runs-on}
+use Rattle.acceptance.specs.Noughts.{Refused}
+use Rattle.acceptance.specs.Calls.{Starts, Samples, Reports, Trace, by-contract, begin, start-accepted, start-refused, sample-accepted, sample-refused, reported}
+
+-- ---- one call, by its contract alone
+
+pub start-answers : {x : Meter} {m : ℕ} {ring : List ℤ} {z : MeterAnswer} → Starts x m ring z → z ≡ startAnswer x m ring
+start-answers (by-contract κs place name allowed) = allowed
+
+pub sample-answers : {x : Meter} {ring : List ℤ} {v : ℤ} {z : MeterAnswer} {left : List ℤ} → Samples x ring v z left →
+    (z ≡ sampleAnswer x ring v) × (left ≡ ringLeft x ring v)
+sample-answers (by-contract κs place name allowed) = allowed
+
+pub report-answers : {x : Meter} {z : Report} → Reports x z → z ≡ reportAnswer x
+report-answers (by-contract κs allowed) = allowed
 
 -- ---- what an answer's number tells: the meter is the new one, or the one that came
 
@@ -47,14 +60,14 @@ module _ (z : MeterAnswer) (r : Refusal) (old new : Meter) (answer : z ≡ meter
 -- ---- a refused call changes nothing
 
 -- A refused start gives the meter back as it came. The ring is lent to a start for reading alone.
-pub refused-start-changes-nothing : {x : Meter} {m : ℕ} {ring : List ℤ} {z : MeterAnswer} → Starts x m ring z → Refused z → z .meter ≡ x
+pub refused-start-changes-nothing : {x : Meter} {m : ℕ} {ring : List ℤ} {z : MeterAnswer} → Starts x m ring z → Refused (z .number) → z .meter ≡ x
 unfolding startAnswer
 refused-start-changes-nothing {z = z} call refused =
     let answer = start-answers call in
     refused-old z _ _ _ answer (λ e. refused (same-number z _ _ _ answer ∙ e))
 
 -- A refused sample call gives the meter back as it came, and leaves the ring as it was.
-pub refused-sample-changes-nothing : {x : Meter} {ring left : List ℤ} {v : ℤ} {z : MeterAnswer} → Samples x ring v z left → Refused z →
+pub refused-sample-changes-nothing : {x : Meter} {ring left : List ℤ} {v : ℤ} {z : MeterAnswer} → Samples x ring v z left → Refused (z .number) →
     (z .meter ≡ x) × (left ≡ ring)
 unfolding sampleAnswer ringLeft
 refused-sample-changes-nothing {x} {ring} {v = v} {z} call refused =
@@ -80,7 +93,7 @@ noughts-refuse-reports call = report-answers call
 
 -- ---- from an accepted start on, the meter is the one function of the factor and the samples
 
-module _ {x : Meter} {m : ℕ} {ring : List ℤ} {z : MeterAnswer} (call : Starts x m ring z) (accepted : Accepted z) where
+module _ {x : Meter} {m : ℕ} {ring : List ℤ} {z : MeterAnswer} (call : Starts x m ring z) (accepted : z .number ≡ 0) where
   accepted-start : (z .meter ≡ meterAfter m []) × Running m ring []
   unfolding startAnswer
   accepted-start =
@@ -92,7 +105,7 @@ module _ {x : Meter} {m : ℕ} {ring : List ℤ} {z : MeterAnswer} (call : Start
   pub started-factor : 1 ≤ m
   started-factor = accepted-start .1 .factor-least
 
-module _ {m : ℕ} {ring h left : List ℤ} {v : ℤ} {z : MeterAnswer} (call : Samples (meterAfter m h) ring v z left) (accepted : Accepted z) where
+module _ {m : ℕ} {ring h left : List ℤ} {v : ℤ} {z : MeterAnswer} (call : Samples (meterAfter m h) ring v z left) (accepted : z .number ≡ 0) where
   accepted-sample : Running m ring h → (z .meter ≡ meterAfter m (h ++ v ∷ [])) × Running m left (h ++ v ∷ [])
   unfolding sampleAnswer ringLeft
   accepted-sample run =
@@ -121,14 +134,14 @@ reports-published t started call =
     let now = trace-runs t started in report-answers call ∙ ap reportAnswer (now .0) ∙ reports (now .1)
 
 -- No start at a factor from 1 to 10,922 is refused if its ring has 3m entries or more.
-pub takes-every-start : {x : Meter} {m : ℕ} {ring : List ℤ} {z : MeterAnswer} → Starts x m ring z → 1 ≤ m → m ≤ 10922 → 3 * m ≤ length ring → Accepted z
+pub takes-every-start : {x : Meter} {m : ℕ} {ring : List ℤ} {z : MeterAnswer} → Starts x m ring z → 1 ≤ m → m ≤ 10922 → 3 * m ≤ length ring → z .number ≡ 0
 unfolding startAnswer
 takes-every-start {m = m} {ring} {z} call least most long =
     same-number z _ _ _ (start-answers call) ∙ ap (λ (r : Refusal). r .number) (start-unrefused m ring least most long)
 
 -- Once started and until 32,768 are in, no sample in range is refused.
 pub takes-every-sample : {x : Meter} {ring h : List ℤ} {m : ℕ} → Trace x ring m h → 1 ≤ m → {left : List ℤ} {v : ℤ} {z : MeterAnswer} →
-    Samples x ring v z left → inRange v ≡ true → length h < 32768 → Accepted z
+    Samples x ring v z left → inRange v ≡ true → length h < 32768 → z .number ≡ 0
 unfolding sampleAnswer
 takes-every-sample {ring = ring} t started {v = v} {z} call inside room =
     let now = trace-runs t started in
