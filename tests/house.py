@@ -18,6 +18,7 @@ HEADER = "include/ploegelster.h"
 RULES = "docs/RULES.md"
 STATEMENTS = "docs/STATEMENTS.md"
 CONDITION1 = "crates/acceptance/proofs/Condition1.antt"
+GROUNDS = "crates/acceptance/proofs/Grounds.antt"
 # What docs/STATEMENTS.md has in backticks and no file holds: words of the languages.
 PLAIN = {"requires", "ensures", "f64", "&[f64]", "&mut [i64]"}
 # Where a field has one name in the sources and another in C.
@@ -166,26 +167,42 @@ def contract_name(house, f, path):
     return found and found[1]
 
 
-def check_theorem(house, f, path, *theorems):
-    """The file has one of the theorems, each a name and how it begins, over the function's own contract, which both call THIS."""
+def has_theorem(house, f, path, name, begins):
+    """Whether the file has the theorem, which has this name and begins so, over the function's own contract, which both call THIS."""
     this = contract_name(house, f, path)
-    for name, begins in theorems if this and is_proved(house, path) else ():
-        if re.search(f"^pub {name} : {begins}".replace("THIS", this), house.text(path), re.M):
+    return bool(this and is_proved(house, path) and re.search(f"^pub {name} : {begins}".replace("THIS", this), house.text(path), re.M))
+
+
+def check_theorem(house, f, path, *theorems):
+    """The file has one of the theorems, each a name and how it begins."""
+    this = contract_name(house, f, path)
+    for name, begins in theorems:
+        if has_theorem(house, f, path, name, begins):
             house.seen["theorems"].add(f"{path} {name.replace('THIS', this)}")
             return
     wanted = " or ".join(name.replace("THIS", this or "NAME") for name, _ in theorems)
     house.lack(f"{told(f)} has no theorem {wanted} over its own contract in {path}")
 
 
+def refuses(house, f):
+    """Whether the answer has a number and a place that are not handed in."""
+    fields = {name for name, _ in declared_fields(house, f.path, (f.answer or "").strip())[2]}
+    return {"number", "place"} <= fields and not re.search(r"\bnumber:", f.parameters)
+
+
 def check_theorems(house, f):
     of_this = r".* THIS\.Post\b"
     check_theorem(house, f, f"crates/{f.crate}/proofs/Unique.antt", (f.name.replace("_", "-") + "-single", "Single" + of_this))
+    if f.exported:
+        own = "THIS-is", rf"THIS\.Post ≡ {f.name.removeprefix('plg_').replace('_', '-')}\.Post$"
+        check_theorem(house, f, CONDITION1, own, ("THIS-tells", "Always" + of_this))
+        if has_theorem(house, f, CONDITION1, *own):
+            return  # all that is said of the entry's contract is said of this one
     check_theorem(house, f, CONDITION1, ("THIS-settled", "Settled" + of_this), ("THIS-one-answer", "Single" + of_this))
     if "&mut [" in f.parameters:
         check_theorem(house, f, CONDITION1, ("THIS-past", "Always" + of_this))
-    if f.exported:
-        entry = f.name.removeprefix("plg_").replace("_", "-")
-        check_theorem(house, f, CONDITION1, ("THIS-is", rf"THIS\.Post ≡ {entry}\.Post$"), ("THIS-tells", "Always" + of_this))
+    if refuses(house, f):
+        check_theorem(house, f, GROUNDS, ("THIS-grounds", "Always" + of_this))
 
 
 # ---- exported functions
@@ -302,19 +319,25 @@ def c_parameter(structs, text):
     return (name, f"{'const' if kind.startswith('const ') else 'mut'} {layout[0][1]}") if star else (name, layout)
 
 
-def struct_fields(house, path, name):
-    """The fields of a struct that a source declares or uses, and the file that declares it."""
+def declared_fields(house, path, name):
+    """Of a struct that a source declares or uses: the file that declares it, whether it is laid out as C has it, and its fields."""
     declared = re.search(rf"(#\[repr\(C\)\]\s*)?pub struct {name} \{{([^}}]*)\}}", source(house, path))
     if declared:
-        if not declared[1]:
-            house.lack(f"struct {name} of {path} goes to C and has no repr(C)")
-        return path, re.findall(r"pub (\w+): ([^,]+),", declared[2])
+        return path, bool(declared[1]), re.findall(r"pub (\w+): ([^,]+),", declared[2])
     used = re.search(rf"^use ([\w:]+)::{name};", source(house, path), re.M)
     if not used:
-        return path, []
+        return path, True, []
     crate, *modules = used[1].split("::")
     crate = path.split("/")[1] if crate == "crate" else crate
-    return struct_fields(house, f"crates/{crate}/src/{'/'.join(modules or ['lib'])}.rt", name)
+    return declared_fields(house, f"crates/{crate}/src/{'/'.join(modules or ['lib'])}.rt", name)
+
+
+def struct_fields(house, path, name):
+    """The file that declares a struct that goes to C, and its fields."""
+    path, as_in_c, fields = declared_fields(house, path, name)
+    if not as_in_c:
+        house.lack(f"struct {name} of {path} goes to C and has no repr(C)")
+    return path, fields
 
 
 def layout(house, path, kind, name=""):
