@@ -38,7 +38,7 @@ use Rattle.variances.specs.declared.DeviationAnswer.{DeviationAnswer}
 use Rattle.acceptance.specs.Noughts.{Refused, CountNought, ReadNought, SumNought, PartValuesNought, FloatNought, ReportNought, DriftNought, DrawnNought, DotNought, ToldDotNought}
 use Rattle.variances.specs.Fractions.{Fraction}
 use Rattle.variances.specs.Answers.{fractionAnswer, deviationAnswer}
-use Rattle.noise.specs.Noise.{noiseAnswer}
+use Rattle.noise.specs.Noise.{noiseAnswer, toldAlpha}
 use Rattle.noise.specs.Bars.{noBar, barsRefusal, barsAnswer}
 use Rattle.noise.specs.declared.Noise.{Noise}
 use Rattle.noise.specs.declared.NoiseAnswer.{NoiseAnswer}
@@ -219,7 +219,7 @@ unfolding noiseAnswer
 noise-noughts r t some = rw (by-refusal r (λ nothing. rw nothing) some) refl
 
 pub told-noise-noughts : (a : NoiseAnswer) → Refused (toldNoise a .number) → ToldNoiseNought (toldNoise a)
-unfolding toldNoise
+unfolding toldNoise toldAlpha
 told-noise-noughts a some = rw (ne-eqb (a .number) 0 some) refl
 
 pub bars-noughts : (r : ℕ) (t : Noise) (m : ℕ) → Refused (barsAnswer r t m .number) → BarsNought (barsAnswer r t m)

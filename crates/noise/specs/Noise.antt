@@ -49,6 +49,11 @@ noiseAnswer r t =
     (record { number = 0; place = 0; noise = t })
     (record { number = r .number; place = r .place; noise = WhitePhase })
 
+-- what an answer tells: the type's alpha; beside a refusal nought
+unfoldable pub toldAlpha : NoiseAnswer → ℤ
+toldAlpha a = cond (eqb (a .number) 0) (alphaOf (a .noise)) (pos 0)
+
+-- from two time deviations
 unfoldable pub typeAnswer : ℕ → ℕ → NoiseAnswer
 typeAnswer r1 r2 = noiseAnswer (noiseRefusal r1 r2) (noiseOf r1 r2)
 
