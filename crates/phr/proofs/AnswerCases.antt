@@ -8,8 +8,9 @@ use lib.IntN.{ℤ}
 use Rattle.laws.specs.Lists.{written}
 use Rattle.record.specs.Answers.{bufferLeft}
 use Rattle.record.specs.Refusals.{none, refused}
-use Rattle.phr.specs.Reading.{kindOf, countOf, valuesFrom, valuesOf, readRefusal, readAnswer}
+use Rattle.phr.specs.Reading.{kindOf, countOf, valuesOf, readRefusal, readAnswer}
 use Rattle.phr.specs.declared.ReadAnswer.{ReadAnswer}
+use Rattle.phr.proofs.ValueLaws.{valuesFrom}
 
 module _ (bytes : List ℕ) (room : ℕ) (buffer : List ℤ) where
   pub read-refused : {answer : ReadAnswer} (n p : ℕ) → 0 < n → readRefusal bytes room ≡ refused n p → answer ≡ record { number = n; place = p; kind = 0; count = 0 } →

@@ -14,7 +14,6 @@ use mir.Val.{SFits, toZ, ofZ}
 use Rattle.laws.specs.Lists.{at, tabulate}
 use Rattle.laws.proofs.ListLaws.{tabulate-length, tabulate-entry, tabulate-equal}
 use Rattle.phr.specs.Bytes.{lowFirst, fromLowFirst, twosComplement, signed, valueBytes, valuesBytes, valueAt}
-use Rattle.phr.specs.Reading.{valuesFrom}
 use Rattle.phr.specs.File.{AreBytes}
 use Rattle.phr.proofs.ByteLaws.{writtenFrom, written-from-none, written-from-next, stores-from, bytes-taken, bytes-dropped, bytes-joined, low-first-length, low-first-bytes, low-first-back, from-low-first-below, from-low-first-back, from-low-first-append}
 use Rattle.phr.proofs.SignLaws.{twos-complement-below, twos-complement-back, signed-back, loaded-value}
@@ -119,9 +118,13 @@ unfolding valuesBytes
 values-bytes-append [] zs = refl
 values-bytes-append (y ∷ ys) zs = rw (values-bytes-append ys zs, append-assoc)
 
+-- so many values from a place on
+abbrev pub valuesFrom : ℕ → ℕ → List ℕ → List ℤ
+valuesFrom place count bytes = tabulate count (λ i. valueAt bytes (place + 8 * i))
+
 -- the first apart
 values-from-first : (place count : ℕ) (bytes : List ℕ) → valuesFrom place (suc count) bytes ≡ valueAt bytes place ∷ valuesFrom (place + 8) count bytes
-unfolding valuesFrom tabulate
+unfolding tabulate
 values-from-first place count bytes =
     ap₂ _∷_
     (ap (valueAt bytes) (omega arith))
@@ -129,7 +132,7 @@ values-from-first place count bytes =
 
 pub values-back : (zs : List ℤ) (before after : List ℕ) (place : ℕ) → length before ≡ place → ((i : ℕ) → i < length zs → SFits w64 (at zs i)) →
     valuesFrom place (length zs) (before ++ (valuesBytes zs ++ after)) ≡ zs
-unfolding valuesFrom tabulate valuesBytes
+unfolding tabulate valuesBytes
 values-back [] before after place e fits = refl
 values-back (z ∷ zs) before after place e fits =
     let first = value-back before (valuesBytes zs ++ after) place z e (fits 0 (omega arith)) in
@@ -140,7 +143,7 @@ values-back (z ∷ zs) before after place e fits =
 
 pub values-bytes-back : (count place : ℕ) (bytes : List ℕ) → AreBytes bytes → place + 8 * count ≤ length bytes →
     valuesBytes (valuesFrom place count bytes) ≡ take (8 * count) (drop place bytes)
-unfolding valuesFrom tabulate valuesBytes
+unfolding tabulate valuesBytes
 values-bytes-back zero place bytes all h = refl
 values-bytes-back (suc count) place bytes all h =
     let next : 8 * suc count ≡ 8 + 8 * count = omega arith in
@@ -152,7 +155,6 @@ values-bytes-back (suc count) place bytes all h =
 
 module _ (place count : ℕ) (bytes : List ℕ) where
   pub values-from-length : length (valuesFrom place count bytes) ≡ count
-  unfolding valuesFrom
   values-from-length = tabulate-length count (λ i. valueAt bytes (place + 8 * i))
 
   module _ (i : ℕ) (inside : i < count) where
@@ -161,7 +163,6 @@ module _ (place count : ℕ) (bytes : List ℕ) where
 
     -- a value as the machine hands it on
     pub values-from-entry : {v : ℤ} → v ≡ valueAt bytes (place + 8 * i) → mag v < 2 ^ 63 → toZ w64 (ofZ w64 v) ≡ at (valuesFrom place count bytes) i
-    unfolding valuesFrom
     values-from-entry e fits =
         loaded-value _ fits ∙ e ∙ sym (tabulate-entry count (λ k. valueAt bytes (place + 8 * k)) (pos 0) i inside)
 
