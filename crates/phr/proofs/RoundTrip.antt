@@ -16,7 +16,7 @@ use Rattle.laws.specs.Lists.{at, tabulate}
 use Rattle.record.specs.Answers.{bufferLeft}
 use Rattle.record.specs.Refusals.{none}
 use Rattle.record.specs.declared.Refusal.{Refusal}
-use Rattle.phr.specs.Bytes.{lowFirst, valueBytes, valuesBytes, valueAt}
+use Rattle.phr.specs.Bytes.{lowFirst, valuesBytes, valueAt}
 use Rattle.phr.specs.File.{header, fileOf, Proper, IsFile, AreBytes}
 use Rattle.phr.specs.Reading.{headerTests, soundUpTo, kindOf, countOf, valuesOf, readRefusal, readAnswer}
 use Rattle.phr.specs.Writing.{writeRefusal}
@@ -25,7 +25,7 @@ use Rattle.phr.proofs.HeaderLaws.{passed-before}
 use Rattle.phr.proofs.RangeCases.{in-range-fits}
 use Rattle.phr.proofs.ReadCases.{Readable, readable-none, unrefused-readable, values-of-length, sound-within, most-values-bounded}
 use Rattle.phr.proofs.WriteCases.{unrefused-writable}
-use Rattle.phr.proofs.ValueLaws.{valuesFrom, value-back, values-back, values-bytes-length, values-bytes-are-bytes, values-bytes-back}
+use Rattle.phr.proofs.ValueLaws.{valueBytes, valuesFrom, value-back, values-back, values-bytes-length, values-bytes-are-bytes, values-bytes-back}
 
 -- ---- a value
 

@@ -13,7 +13,7 @@ use mir.Syntax.{w64}
 use mir.Val.{SFits, toZ, ofZ}
 use Rattle.laws.specs.Lists.{at, tabulate}
 use Rattle.laws.proofs.ListLaws.{tabulate-length, tabulate-entry, tabulate-equal}
-use Rattle.phr.specs.Bytes.{lowFirst, fromLowFirst, twosComplement, signed, valueBytes, valuesBytes, valueAt}
+use Rattle.phr.specs.Bytes.{lowFirst, fromLowFirst, twosComplement, signed, valuesBytes, valueAt}
 use Rattle.phr.specs.File.{AreBytes}
 use Rattle.phr.proofs.ByteLaws.{writtenFrom, written-from-none, written-from-next, stores-from, bytes-taken, bytes-dropped, bytes-joined, low-first-length, low-first-bytes, low-first-back, from-low-first-below, from-low-first-back, from-low-first-append}
 use Rattle.phr.proofs.SignLaws.{twos-complement-below, twos-complement-back, signed-back, loaded-value}
@@ -68,10 +68,13 @@ word-bytes n h =
     let top : n / 72057594037927936 % 256 ≡ n / 72057594037927936 = omega arith in
     simp (div-div-eq-div-mul, top)
 
+-- a value as 8 bytes
+abbrev pub valueBytes : ℤ → List ℕ
+valueBytes z = lowFirst 8 (twosComplement z)
+
 pub value-stored : (buffer : List ℕ) (place : ℕ) (z : ℤ) → place + 8 ≤ length buffer → SFits w64 z → {n : ℕ} → n ≡ twosComplement z →
     set (set (set (set (set (set (set (set buffer place (n % 256)) (place + 1) (n / 256 % 256)) (place + 2) (n / 65536 % 256)) (place + 3) (n / 16777216 % 256)) (place + 4) (n / 4294967296 % 256)) (place + 5) (n / 1099511627776 % 256)) (place + 6) (n / 281474976710656 % 256)) (place + 7) (n / 72057594037927936)
     ≡ writtenFrom place (valueBytes z) buffer
-unfolding valueBytes
 value-stored buffer place z room fits {n} e =
     rw (← e, word-bytes n (rw e (twos-complement-below z fits)), add-one, add-two, add-three, add-four, add-five, add-six, add-seven)
     (stores-from place (n % 256 ∷ n / 256 % 256 ∷ n / 65536 % 256 ∷ n / 16777216 % 256 ∷ n / 4294967296 % 256 ∷ n / 1099511627776 % 256 ∷ n / 281474976710656 % 256 ∷ n / 72057594037927936 ∷ []) buffer room)
@@ -79,22 +82,20 @@ value-stored buffer place z room fits {n} e =
 -- ---- a value
 
 pub value-bytes-length : (z : ℤ) → length (valueBytes z) ≡ 8
-unfolding valueBytes
 value-bytes-length z = low-first-length 8 (twosComplement z)
 
 pub value-bytes-are-bytes : (z : ℤ) → AreBytes (valueBytes z)
-unfolding valueBytes
 value-bytes-are-bytes z = low-first-bytes 8 (twosComplement z)
 
 pub value-back : (before after : List ℕ) (place : ℕ) (z : ℤ) → length before ≡ place → SFits w64 z → valueAt (before ++ (valueBytes z ++ after)) place ≡ z
-unfolding valueAt valueBytes
+unfolding valueAt
 value-back before after place z e fits =
     rw (drop-at before _ place e, take-at (lowFirst 8 (twosComplement z)) after 8 (low-first-length 8 (twosComplement z)), low-first-back 8 (twosComplement z) (twos-complement-below z fits))
     (twos-complement-back z fits)
 
 module _ (bytes : List ℕ) (place : ℕ) (all : AreBytes bytes) (inside : place + 8 ≤ length bytes) where
   pub value-bytes-back : valueBytes (valueAt bytes place) ≡ take 8 (drop place bytes)
-  unfolding valueAt valueBytes
+  unfolding valueAt
   value-bytes-back =
       let eight = take 8 (drop place bytes) in
       let there : length eight ≡ 8 = bytes-there bytes place 8 inside in

@@ -47,6 +47,5 @@ readRefusal bytes room =
 -- kind and count, or the refusal and noughts
 unfoldable pub readAnswer : List ℕ → ℕ → ReadAnswer
 readAnswer bytes room =
-    cond (eqb (readRefusal bytes room .number) 0)
-    (record { number = 0; place = 0; kind = kindOf bytes; count = countOf bytes })
+    cond (eqb (readRefusal bytes room .number) 0) (record { number = 0; place = 0; kind = kindOf bytes; count = countOf bytes })
     (record { number = readRefusal bytes room .number; place = readRefusal bytes room .place; kind = 0; count = 0 })

@@ -5,7 +5,7 @@ ghost use mathlib.Core.List.{_++_};
 ghost use Prim.Native.Nat.{_+_, _*_, _≤_, _<_};
 ghost use lib.ListN.{length, take, drop};
 ghost use Rattle.laws.specs.Lists.{tabulate, written, firstFailing};
-ghost use Rattle.phr.specs.Bytes.{fromLowFirst, twosComplement, valueBytes, valuesBytes, valueAt};
+ghost use Rattle.phr.specs.Bytes.{lowFirst, fromLowFirst, twosComplement, valuesBytes, valueAt};
 ghost use Rattle.phr.specs.Bytes.{signed as signedOf};
 ghost use Rattle.phr.specs.File.{valueInRange};
 
@@ -121,7 +121,7 @@ fn unsigned(z: i64) -> u64
 // A value's eight bytes from a place on.
 fn write_value(buffer: &mut [u8], place: usize, z: i64)
     requires { ⌜ place + 8 ≤ length (now buffer) ⌝ }
-    ensures { λ r. ⌜ now (buffer .exit) ≡ take place (now (buffer .entry)) ++ written (valueBytes z) (drop place (now (buffer .entry))) ⌝ }
+    ensures { λ r. ⌜ now (buffer .exit) ≡ take place (now (buffer .entry)) ++ written (lowFirst 8 (twosComplement z)) (drop place (now (buffer .entry))) ⌝ }
 {
     let n = unsigned(z);
     buffer[place] = (n % 256) as u8;
