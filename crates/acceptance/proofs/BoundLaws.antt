@@ -8,10 +8,9 @@ use Rattle.record.proofs.RefusalLaws.{Sized, Sound, in-range-bounded}
 use Rattle.record.specs.declared.Demand.{Demand}
 use Rattle.sums.specs.Answers.{allanDemand, modifiedDemand}
 use Rattle.variances.proofs.FigureLaws.{Allowed}
-use Rattle.noise.specs.Noise.{noiseDemand}
+use Rattle.noise.proofs.NoiseLaws.{noiseDemand}
 use Rattle.noise.proofs.BarLaws.{Barred}
 use Rattle.phr.specs.File.{Proper}
-use Rattle.phr.specs.Reading.{rightLength}
 use Rattle.phr.proofs.WriteCases.{Writable}
 use Rattle.acceptance.specs.Promises.{InBounds, ReadingsInBounds, SumInBounds, BarInBounds}
 
@@ -51,5 +50,4 @@ pub bar-barred : {r m : ℕ} → BarInBounds r m → Barred r m
 bar-barred b = record { some = b .some; most = b .most; enough = b .enough; not-too-many = b .few }
 
 pub proper-writable : {kind : ℕ} {values : List ℤ} {room : ℕ} → Proper kind values → 8 + 8 * length values ≤ room → Writable kind values room
-unfolding rightLength
 proper-writable proper enough = record { known = proper .known; few = proper .few; enough = enough; in-range = proper .in-range }

@@ -21,7 +21,7 @@ use Rattle.sums.proofs.allan_sum.Reads as allan-sum
 use Rattle.sums.proofs.allan_sum.Kinds as allan-sum-kinds
 use Rattle.sums.proofs.modified_sum.Reads as modified-sum
 use Rattle.sums.proofs.modified_sum.Kinds as modified-sum-kinds
-use Rattle.variances.specs.Fractions.{euclid, gcd, lowestTerms}
+use Rattle.variances.specs.Fractions.{euclid, gcd}
 use Rattle.variances.specs.Deviations.{within}
 use Rattle.variances.specs.Answers.{figureRefusal, fractionAnswer, allanFractionAnswer}
 use Rattle.variances.specs.declared.FractionAnswer.{FractionAnswer}
@@ -275,7 +275,7 @@ abbrev pub TwoOverOne : FractionAnswer → Type 0
 TwoOverOne z = (z .number ≡ 0) × (value (z .numerator) ≡ 2) × (z .denominator ≡ 1)
 
 sixteen-fraction : TwoOverOne (allanFractionAnswer 16 1 4)
-unfolding allanFractionAnswer figureRefusal fractionAnswer lowestTerms gcd euclid allanDenominator
+unfolding allanFractionAnswer figureRefusal fractionAnswer gcd euclid allanDenominator
 sixteen-fraction = (refl, refl, refl)
 
 -- Whatever the Allan sum answers of this record, the fraction of that answer, its sum passed on as it came, is 2/1.

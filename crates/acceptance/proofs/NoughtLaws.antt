@@ -22,13 +22,15 @@ use Rattle.sums.specs.Answers.{sumAnswer, partOf, noPart}
 use Rattle.drift.specs.Drift.{driftRefusal, driftAnswer}
 use Rattle.readings.specs.Readings.{samplesOf}
 use Rattle.readings.proofs.RefusalLaws.{samples-length}
-use Rattle.readings.specs.Answers.{floatRefusal, floatAnswer, floatBuffer}
+use Rattle.readings.specs.Answers.{floatRefusal, floatAnswer}
+use Rattle.readings.proofs.AnswerLaws.{floatBuffer}
 use Rattle.readings.specs.declared.FloatSums.{FloatSums}
 use Rattle.meter.specs.Meter.{holdsTogether, ringWith}
 use Rattle.meter.specs.Answers.{meterAnswer, sampleRefusal, sampleAnswer, ringLeft, reportAnswer}
 use Rattle.meter.specs.declared.Meter.{Meter}
 use Rattle.meter.specs.declared.Report.{Report}
-use Rattle.phr.specs.Reading.{readRefusal, readAnswer, readBuffer, kindOf, valuesOf, countOf}
+use Rattle.phr.specs.Reading.{readRefusal, readAnswer, kindOf, valuesOf, countOf}
+use Rattle.phr.proofs.AnswerCases.{readBuffer}
 use Rattle.phr.proofs.ReadCases.{values-of-length}
 use Rattle.phr.specs.declared.ReadAnswer.{ReadAnswer}
 use Rattle.plot.specs.Drawn.{drawnRefusal, drawnAnswer}
@@ -36,7 +38,6 @@ use Rattle.plot.specs.Dots.{dotNumber, dotValue, dotAnswer}
 use Rattle.ploegelster.specs.Boundary.{dotKind, toldDot}
 use Rattle.variances.specs.declared.DeviationAnswer.{DeviationAnswer}
 use Rattle.acceptance.specs.Noughts.{Refused, CountNought, ReadNought, SumNought, PartValuesNought, FloatNought, ReportNought, DriftNought, DrawnNought, DotNought, ToldDotNought}
-use Rattle.variances.specs.Fractions.{Fraction}
 use Rattle.variances.specs.Answers.{fractionAnswer, deviationAnswer}
 use Rattle.noise.specs.Noise.{noiseAnswer, toldAlpha}
 use Rattle.noise.specs.Bars.{noBar, barsRefusal, barsAnswer}
@@ -204,9 +205,9 @@ told-dot-noughts d some = rw (dot-noughts d some .0) (refl, refl)
 
 -- ---- fractions and deviations
 
-pub fraction-noughts : (r : Refusal) (f : Fraction) → Refused (fractionAnswer r f .number) → FractionNought (fractionAnswer r f)
+pub fraction-noughts : (r : Refusal) (n d : ℕ) → Refused (fractionAnswer r n d .number) → FractionNought (fractionAnswer r n d)
 unfolding fractionAnswer
-fraction-noughts r f some = rw (by-refusal r (λ nothing. rw nothing) some) (refl, refl)
+fraction-noughts r n d some = rw (by-refusal r (λ nothing. rw nothing) some) (refl, refl)
 
 pub deviation-noughts : (r : Refusal) (d : ℕ) → Refused (deviationAnswer r d .number) → DeviationNought (deviationAnswer r d)
 unfolding deviationAnswer

@@ -33,41 +33,42 @@ use Rattle.sums.specs.Published.{allanSum, allanCount, modifiedSum, modifiedCou
 use Rattle.sums.specs.Answers.{allanDemand, modifiedDemand, partOf, allanSumAnswer, modifiedSumAnswer}
 use Rattle.sums.proofs.AnswerLaws.{allan-sum-given, modified-sum-given}
 use Rattle.readings.specs.Readings.{readingNumber, samplesOf, readingRefusal}
-use Rattle.readings.specs.Answers.{floatRefusal, floatAnswer, floatBuffer}
+use Rattle.readings.specs.Answers.{floatRefusal, floatAnswer}
+use Rattle.readings.proofs.AnswerLaws.{floatBuffer}
 use Rattle.readings.specs.declared.FloatSums.{FloatSums}
 use Rattle.readings.proofs.ReadingLaws.{sample-exact}
 use Rattle.readings.proofs.RefusalLaws.{isSample, no-sample-at, all-samples, samples-length, sample-at, readings-decide, samples-taken}
 use Rattle.meter.specs.Answers.{publishedReport}
 use Rattle.phr.specs.File.{fileOf, Proper, IsFile, AreBytes}
-use Rattle.phr.specs.Reading.{readRefusal, readAnswer, readBuffer, kindOf, countOf, valuesOf, rightLength}
+use Rattle.phr.specs.Reading.{readRefusal, readAnswer, kindOf, countOf, valuesOf}
+use Rattle.phr.proofs.AnswerCases.{readBuffer}
 use Rattle.phr.specs.Writing.{writeRefusal}
 use Rattle.phr.specs.declared.ReadAnswer.{ReadAnswer}
 use Rattle.phr.proofs.ReadCases.{readable-none, unrefused-readable}
 use Rattle.phr.proofs.WriteCases.{Writable, writable-none}
 use Rattle.phr.proofs.RoundTrip.{accepted-exactly, buffer-has-file, file-is-read, file-answer, values-come-back}
 use Rattle.plot.specs.Drawn.{drawnAnswer}
-use Rattle.plot.specs.Dots.{dotNumber, dotValue, dotAnswer, allanDotAnswer, timeDotAnswer}
+use Rattle.plot.specs.Dots.{dotNumber, dotValue, dotAnswer}
 use Rattle.plot.specs.declared.drawn.DrawnAnswer.{DrawnAnswer}
 use Rattle.plot.specs.declared.dots.DotAnswer.{DotAnswer}
 use Rattle.plot.proofs.DrawnLaws as DrawnLaws
 use Rattle.plot.proofs.DrawnLaws.{drawn-is-greatest, drawn-given}
 use Rattle.plot.proofs.DotLaws.{nought-dot, drawn-dot, refused-dot}
 use Rattle.sums.specs.Published.{allanDenominator, timeDenominator}
-use Rattle.variances.specs.Fractions.{lowestTerms}
 use Rattle.variances.specs.Deviations.{within, deviation}
 use Rattle.variances.specs.Answers.{deviationAnswer, allanFractionAnswer, timeFractionAnswer, allanDeviationAnswer, timeDeviationAnswer}
 use Rattle.variances.specs.declared.DeviationAnswer.{DeviationAnswer}
 use Rattle.variances.proofs.FigureLaws.{Allowed, denominator-above-nought}
-use Rattle.variances.proofs.FractionLaws.{lowest-same-value, lowest-no-common, lowest-of-nought}
+use Rattle.variances.proofs.FractionLaws.{lowestTerms, lowest-same-value, lowest-no-common, lowest-of-nought}
 use Rattle.variances.proofs.DeviationLaws.{deviation-is-greatest}
 use Rattle.variances.proofs.AnswerLaws.{givenFraction, largeRefusal, above-refused, not-above-given, allan-fraction-given, time-fraction-given, allan-deviation-by-size, allan-deviation-given, time-deviation-by-size, time-deviation-given}
 use Rattle.variances.proofs.Bounds.{allan-allowed, allan-deviation-within, modified-allowed, time-deviation-within}
-use Rattle.noise.specs.Noise.{alphaOf, noiseOf, noiseRefusal, noiseAnswer, typeAnswer, noiseDemand, timeDeviation, recordTypeAnswer}
+use Rattle.noise.specs.Noise.{alphaOf, noiseOf, noiseRefusal, noiseAnswer, typeAnswer, timeDeviation, recordTypeAnswer}
 use Rattle.noise.specs.Bars.{barWidth, barHalf, barOf, barsAnswer}
 use Rattle.noise.specs.declared.Noise.{Noise}
 use Rattle.noise.specs.declared.NoiseAnswer.{NoiseAnswer}
 use Rattle.noise.proofs.NoiseLaws as NoiseLaws
-use Rattle.noise.proofs.NoiseLaws.{noise-given, sound-at-factor, sound-at-double, record-given}
+use Rattle.noise.proofs.NoiseLaws.{noiseDemand, noise-given, sound-at-factor, sound-at-double, record-given}
 use Rattle.noise.proofs.BarLaws as BarLaws
 use Rattle.noise.proofs.BarLaws.{Barred, half-is-greatest, half-within}
 use Rattle.acceptance.specs.Promises.{Phasing, Differing, Drifting, SumOf, PartOf, PhasesOf, DifferencesOf, BackAndForth, DriftOf, DriftRemoved, FloatSumsOf, ReportOf, ReadsBack, DrawnOf, DotOf, FractionOf, DeviationOf, TypeByTable, NoiseOf, BarsOf}
@@ -307,17 +308,17 @@ module _ (kind : ℕ) (values : List ℤ) where
   -- what writing leaves at the front of the buffer is the file
   pub file-left : (buffer : List ℕ) → Writable kind values (length buffer) →
       let r : Refusal = writeRefusal kind values (length buffer) in
-      take (countAnswer r (rightLength (length values)) .count) (bufferLeft r (fileOf kind values) buffer) ≡ fileOf kind values
+      take (countAnswer r (8 + 8 * length values) .count) (bufferLeft r (fileOf kind values) buffer) ≡ fileOf kind values
   file-left buffer writable =
       let nothing = writable-none kind values (length buffer) writable in
       ap (λ (z : CountAnswer). take (z .count) (bufferLeft (writeRefusal kind values (length buffer)) (fileOf kind values) buffer))
-      (count-given nothing (rightLength (length values)) (fileOf kind values) buffer)
+      (count-given nothing (8 + 8 * length values) (fileOf kind values) buffer)
       ∙ buffer-has-file kind values buffer nothing
 
   pub write-answered : (buffer : List ℕ) → Writable kind values (length buffer) →
-      countAnswer (writeRefusal kind values (length buffer)) (rightLength (length values)) .number ≡ 0
+      countAnswer (writeRefusal kind values (length buffer)) (8 + 8 * length values) .number ≡ 0
   write-answered buffer writable =
-      ap (λ (z : CountAnswer). z .number) (count-given (writable-none kind values (length buffer) writable) (rightLength (length values)) (fileOf kind values) buffer)
+      ap (λ (z : CountAnswer). z .number) (count-given (writable-none kind values (length buffer) writable) (8 + 8 * length values) (fileOf kind values) buffer)
 
   -- reading it gives the kind and the values
   pub reads-back : (buffer : List ℤ) → Proper kind values → length values ≤ length buffer →
@@ -393,12 +394,12 @@ module _ (s m count : ℕ) (allowed : Allowed s m count) where
   unfolding timeDenominator
   time-deviation-of = deviation-of s _ (denominator-above-nought allowed 6 (omega arith)) (allowed .sum-below) (time-deviation-by-size s m count allowed)
 
-  pub allan-dot-of : DotOf s (2 * (m * m) * count) (allanDotAnswer s m count)
-  unfolding allanDotAnswer allanDenominator
+  pub allan-dot-of : DotOf s (2 * (m * m) * count) (dotAnswer (allanDeviationAnswer s m count))
+  unfolding allanDenominator
   allan-dot-of = dot-of s _ (denominator-above-nought allowed 2 (omega arith)) (allowed .sum-below) (allan-deviation-by-size s m count allowed)
 
-  pub time-dot-of : DotOf s (6 * (m * m) * count) (timeDotAnswer s m count)
-  unfolding timeDotAnswer timeDenominator
+  pub time-dot-of : DotOf s (6 * (m * m) * count) (dotAnswer (timeDeviationAnswer s m count))
+  unfolding timeDenominator
   time-dot-of = dot-of s _ (denominator-above-nought allowed 6 (omega arith)) (allowed .sum-below) (time-deviation-by-size s m count allowed)
 
 -- the deviation of a record within the bounds is given

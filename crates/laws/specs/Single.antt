@@ -11,16 +11,14 @@ abbrev pub Single : (n : ℕ) (params : List (PK n)) (result : RK n) → Out n p
 Single n params result Post =
     (κs : Lfts n) (args : Dens κs params) (z z′ : resT result κs .Denot) (w w′ : Lasts (endedOf n params result) κs args) →
     Post κs args z (atExit (endedOf n params result) κs args w) →
-    Post κs args z′ (atExit (endedOf n params result) κs args w′) →
-    (z ≡ z′) × (w ≡ w′)
+    Post κs args z′ (atExit (endedOf n params result) κs args w′) → (z ≡ z′) × (w ≡ w′)
 
 -- whatever the contract allows of any arguments has a property: of the arguments, the result, and what is left of each buffer
 abbrev pub Always : (n : ℕ) (params : List (PK n)) (result : RK n) → Out n params result →
     ((κs : Lfts n) (args : Dens κs params) → resT result κs .Denot → Lasts (endedOf n params result) κs args → Type 0) → Type 0
 Always n params result Post Property =
     (κs : Lfts n) (args : Dens κs params) (z : resT result κs .Denot) (w : Lasts (endedOf n params result) κs args) →
-    Post κs args z (atExit (endedOf n params result) κs args w) →
-    Property κs args z w
+    Post κs args z (atExit (endedOf n params result) κs args w) → Property κs args z w
 
 -- both: one answer, and what is said of every answer
 abbrev pub Settled : (n : ℕ) (params : List (PK n)) (result : RK n) → Out n params result →

@@ -18,6 +18,7 @@ use Rattle.wide.specs.declared.Wide.{Wide}
 use Rattle.wide.proofs.WideLaws.{value-of-halves, at-most-of-halves}
 use Rattle.record.specs.Refusals.{none, refused, recordRefusal}
 use Rattle.record.specs.declared.Refusal.{Refusal}
+use Rattle.record.specs.declared.Demand.{Demand}
 use Rattle.record.proofs.RefusalLaws.{Sound, sound-none, none-sound, refusal-stands, none-gives-way}
 use Rattle.sums.specs.Published.{modifiedSum, modifiedCount}
 use Rattle.sums.specs.Answers.{modifiedDemand, modifiedSumAnswer}
@@ -27,7 +28,7 @@ use Rattle.variances.specs.declared.DeviationAnswer.{DeviationAnswer}
 use Rattle.sums.proofs.AnswerLaws.{modified-sum-given}
 use Rattle.variances.proofs.AnswerLaws.{time-deviation-given}
 use Rattle.variances.proofs.Bounds.{modified-allowed, time-deviation-within}
-use Rattle.noise.specs.Noise.{alphaOf, kappaOf, noiseOf, noiseRefusal, noiseAnswer, typeAnswer, noiseDemand, timeDeviation, recordTypeAnswer}
+use Rattle.noise.specs.Noise.{alphaOf, kappaOf, noiseOf, noiseRefusal, noiseAnswer, typeAnswer, timeDeviation, recordTypeAnswer}
 use Rattle.noise.specs.declared.Noise.{Noise}
 use Rattle.noise.specs.declared.Noise.the-variants.{WhitePhase, FlickerPhase, WhiteFrequency, FlickerFrequency, RandomWalkFrequency}
 use Rattle.noise.specs.declared.NoiseAnswer.{NoiseAnswer}
@@ -174,6 +175,10 @@ module _ (r1 r2 : ℕ) {refusal : Refusal} (refusal-is : refusal ≡ noiseRefusa
   type-given nothing i-is t-is = ap givenType (one-type t-is i-is) ∙ rw (sym refusal-is) (sym (noise-given refusal _ nothing))
 
 -- ---- a record
+
+-- what the type of a record asks of it
+abbrev pub noiseDemand : Demand
+noiseDemand = record { largest = 5461; each = 6; besides = 0 }
 
 module _ (m : ℕ) (xs : List ℤ) where
   -- a record that is sound for the type is sound for the modified sum at m and at 2m

@@ -21,11 +21,7 @@ barHalf r t M = greatest 64 (λ h. leb (h * h * M) (barWidth r t * barWidth r t)
 
 -- 8 (r = 0), 3 (r above 2^62), 1 (M below 10), 2 (M above 32,767)
 unfoldable pub barsRefusal : ℕ → ℕ → Refusal
-barsRefusal r M =
-    refusedIf (eqb r 0) 8 0
-    then refusedIf (ltb (2 ^ 62) r) 3 0
-    then refusedIf (ltb M 10) 1 0
-    then refusedIf (ltb 32767 M) 2 0
+barsRefusal r M = refusedIf (eqb r 0) 8 0 then refusedIf (ltb (2 ^ 62) r) 3 0 then refusedIf (ltb M 10) 1 0 then refusedIf (ltb 32767 M) 2 0
 
 -- three doubles, drawn from r-h, r and r+h; where r-h is nought, 0.0 is drawn
 unfoldable pub barOf : ℕ → ℕ → Bar
