@@ -62,6 +62,5 @@ timeDeviation m xs = deviation (modifiedSum m xs) (timeDenominator m (modifiedCo
 -- from a record: m from 1 to 5,461 and N at least 6m
 unfoldable pub recordTypeAnswer : ℕ → List ℤ → NoiseAnswer
 recordTypeAnswer m xs =
-    let r1 : ℕ = timeDeviation m xs in
-    let r2 : ℕ = timeDeviation (2 * m) xs in
+    let r1 : ℕ = timeDeviation m xs in let r2 : ℕ = timeDeviation (2 * m) xs in
     noiseAnswer (recordRefusal (record { largest = 5461; each = 6; besides = 0 }) m xs then noiseRefusal r1 r2) (noiseOf r1 r2)

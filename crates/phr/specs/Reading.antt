@@ -23,9 +23,11 @@ soundUpTo [] bytes = 0
 soundUpTo (test ∷ tests) [] = 0
 soundUpTo (test ∷ tests) (b ∷ bytes) = cond (test b) (suc (soundUpTo tests bytes)) 0
 
+-- the kind, at byte 5
 unfoldable pub kindOf : List ℕ → ℕ
 kindOf bytes = getD bytes 5 0
 
+-- the count, at bytes 6 and 7, low byte first
 unfoldable pub countOf : List ℕ → ℕ
 countOf bytes = getD bytes 6 0 + 256 * getD bytes 7 0
 

@@ -31,6 +31,7 @@ pub record Exactly (x : Float) (z : ℤ) : Type 0 where
   pub value : HasValue x sign (natAbs z) 1
   pub signed : z ≡ cond sign (negℤ (pos (natAbs z))) (pos (natAbs z))
 
+-- the samples of readings
 unfoldable pub samplesOf : List Float → List ℤ
 samplesOf xs = map sampleOf xs
 
