@@ -151,8 +151,14 @@ def check_crates(house):
 def check_contract(house, f):
     if "requires" in f.clauses:
         house.lack(f"{told(f)} has a requires")
-    if "ensures" not in f.clauses:
-        house.lack(f"{told(f)} has no ensures")
+
+
+def check_promises(house):
+    """Whatever is marked `pub` promises something, in the programs too and where no other crate reaches it."""
+    for path in house.files("crates/*/src/**/*.rt"):
+        for f in functions_in(house, path.split("/")[1], path):
+            if "ensures" not in f.clauses:
+                house.lack(f"{told(f)} has no ensures")
 
 
 # ---- their theorems
@@ -609,6 +615,7 @@ def looked_over(root, symbols):
     """The house after every check."""
     house = House(root, symbols)
     check_crates(house)
+    check_promises(house)
     functions = public_functions(house)
     for f in functions:
         check_contract(house, f)

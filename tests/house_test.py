@@ -33,6 +33,7 @@ CASES = [
      "pub fn Meter::spare of crates/meter/src/lib.rt has no theorem spare-single"),
     ("crates/plot/src/dots.rt", "fn dot_of(", "pub fn dot_of(", "pub fn dot_of of crates/plot/src/dots.rt has a requires"),
     ("crates/phr/src/header.rt", "pub(crate) fn word(", "pub fn word(", None),
+    ("crates/printed/src/print.rt", "pub(crate) fn number(", "pub fn number(", "pub fn number of crates/printed/src/print.rt has no ensures"),
     (SUMS, "mod totals;", "mod totals;\npub use totals::slid;", "`pub use totals::slid;` of crates/sums/src/lib.rt hides"),
     (PUBLISHED, '#[no_mangle]\npub extern "C" fn plg_time_fraction', 'pub extern "C" fn plg_time_fraction',
      "fn plg_time_fraction of crates/ploegelster/src/published.rt has a head"),

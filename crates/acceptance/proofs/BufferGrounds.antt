@@ -9,7 +9,7 @@ use lib.ListN.{length}
 use Rattle.laws.specs.Lists.{at}
 use Rattle.laws.specs.Sums.{sumℤ}
 use Rattle.laws.proofs.SumLaws.{sumℤ-step}
-use Rattle.record.specs.Answers.{countAnswer, refusedCount}
+use Rattle.record.specs.Answers.{countAnswer}
 use Rattle.record.specs.declared.Refusal.{Refusal}
 use Rattle.record.specs.declared.CountAnswer.{CountAnswer}
 use Rattle.frequency.specs.Frequency.{firstLeaving, phaseRefusal, frequencyRefusal}
@@ -130,7 +130,7 @@ pub count-grounded : {Row : ℕ → ℕ → Type 0} {r : Refusal} → Agrees Row
 unfolding countAnswer
 count-grounded {r = r} agrees n =
     grounded-answer agrees (λ (z : CountAnswer). z .number) (λ (z : CountAnswer). z .place) (record { number = 0; place = 0; count = n })
-    (refusedCount (r .number) (r .place)) (refl, refl) (refl, refl)
+    (record { number = r .number; place = r .place; count = 0 }) (refl, refl) (refl, refl)
 
 pub drift-grounded : (xs : List ℤ) → Grounded (OfDrift xs) (driftAnswer xs .number) (driftAnswer xs .place)
 unfolding driftAnswer

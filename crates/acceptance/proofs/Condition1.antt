@@ -74,7 +74,6 @@ use Rattle.readings.proofs.float_sums.Reads as float-sums
 use Rattle.readings.proofs.float_sums.Kinds as float-sums-kinds
 use Rattle.plot.proofs.Unique.{drawn-number-single, allan-dot-single, time-dot-single}
 use Rattle.plot.specs.Drawn.{plusZero}
-use Rattle.plot.specs.Dots.{allanDotAnswer, timeDotAnswer}
 use Rattle.plot.specs.declared.dots.DotAnswer.{DotAnswer}
 use Rattle.plot.proofs.drawn.drawn_number.Reads as drawn-number
 use Rattle.plot.proofs.drawn.drawn_number.Kinds as drawn-number-kinds
@@ -220,12 +219,12 @@ modified-sum-settled = (modified-sum-single, λ κs args z w is. rw is (sum-noug
 pub allan-fraction-settled : Settled 0 allan-fraction-kinds.ps allan-fraction-kinds.r allan-fraction.Post
     (λ κs args z w. Refused (z .number) → SumNought (z .numerator) (z .denominator))
 unfolding allanFractionAnswer
-allan-fraction-settled = (allan-fraction-single, λ κs args z w is. rw is (fraction-noughts _ _))
+allan-fraction-settled = (allan-fraction-single, λ κs args z w is. rw is (fraction-noughts _ _ _))
 
 pub time-fraction-settled : Settled 0 time-fraction-kinds.ps time-fraction-kinds.r time-fraction.Post
     (λ κs args z w. Refused (z .number) → SumNought (z .numerator) (z .denominator))
 unfolding timeFractionAnswer
-time-fraction-settled = (time-fraction-single, λ κs args z w is. rw is (fraction-noughts _ _))
+time-fraction-settled = (time-fraction-single, λ κs args z w is. rw is (fraction-noughts _ _ _))
 
 pub allan-deviation-settled : Settled 0 allan-deviation-kinds.ps allan-deviation-kinds.r allan-deviation.Post
     (λ κs args z w. Refused (z .number) → z .deviation ≡ 0)
@@ -295,12 +294,10 @@ drawn-number-settled = (drawn-number-single, λ κs args z w is. rw is (drawn-no
 
 pub allan-dot-settled : Settled 0 allan-dot-kinds.ps allan-dot-kinds.r allan-dot.Post
     (λ κs args z w. Refused (z .number) → DotNought (z .dot))
-unfolding allanDotAnswer
 allan-dot-settled = (allan-dot-single, λ κs args z w is. rw is (dot-noughts _))
 
 pub time-dot-settled : Settled 0 time-dot-kinds.ps time-dot-kinds.r time-dot.Post
     (λ κs args z w. Refused (z .number) → DotNought (z .dot))
-unfolding timeDotAnswer
 time-dot-settled = (time-dot-single, λ κs args z w is. rw is (dot-noughts _))
 
 -- ---- noise
@@ -411,7 +408,6 @@ plg-allan-dot-tells κs args z w is own other = is ∙ sym (ap toldDot other)
 
 pub plg-allan-dot-settled : Settled 0 plg-allan-dot-kinds.ps plg-allan-dot-kinds.r plg-allan-dot.Post
     (λ κs args z w. Refused (z .number) → (z .kind ≡ 0) × (z .value ≡ plusZero))
-unfolding allanDotAnswer
 plg-allan-dot-settled = (plg-allan-dot-single, λ κs args z w is. rw is (told-dot-noughts _))
 
 pub plg-time-dot-tells : Always 0 plg-time-dot-kinds.ps plg-time-dot-kinds.r plg-time-dot.Post
@@ -420,7 +416,6 @@ plg-time-dot-tells κs args z w is own other = is ∙ sym (ap toldDot other)
 
 pub plg-time-dot-settled : Settled 0 plg-time-dot-kinds.ps plg-time-dot-kinds.r plg-time-dot.Post
     (λ κs args z w. Refused (z .number) → (z .kind ≡ 0) × (z .value ≡ plusZero))
-unfolding timeDotAnswer
 plg-time-dot-settled = (plg-time-dot-single, λ κs args z w is. rw is (told-dot-noughts _))
 
 -- C has no enum: a noise type is told as its alpha, and bars take an alpha

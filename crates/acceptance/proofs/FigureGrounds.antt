@@ -11,11 +11,10 @@ use Rattle.laws.proofs.GreatestLaws.{one-greatest}
 use Rattle.record.specs.Refusals.{none}
 use Rattle.record.specs.declared.Refusal.{Refusal}
 use Rattle.variances.specs.Deviations.{within, deviation}
-use Rattle.variances.specs.Fractions.{Fraction}
-use Rattle.variances.specs.Answers.{figureRefusal, fractionAnswer, deviationRefusal, deviationAnswer}
+use Rattle.variances.specs.Answers.{figureRefusal, fractionAnswer, deviationAnswer}
 use Rattle.variances.specs.declared.FractionAnswer.{FractionAnswer}
 use Rattle.variances.specs.declared.DeviationAnswer.{DeviationAnswer}
-use Rattle.variances.proofs.AnswerLaws.{givenFraction, noFraction, givenDeviation, noDeviation, deviation-refused}
+use Rattle.variances.proofs.AnswerLaws.{deviationRefusal, givenFraction, noFraction, givenDeviation, noDeviation, deviation-refused}
 use Rattle.variances.proofs.DeviationLaws.{deviation-is-greatest}
 use Rattle.variances.proofs.FigureLaws.{factor-nought, factor-too-large, count-nought, count-too-large, sum-too-large, unrefused-allowed, denominator-above-nought}
 use Rattle.plot.specs.Dots.{dotAnswer}
@@ -62,7 +61,6 @@ module _ (sum m count scale : ℕ) (some : 0 < scale) where
       deviation-is-greatest sum d (denominator-above-nought allowed scale some) (allowed .sum-below)
 
   pub deviation-agrees : Agrees (OfDeviation sum m count d) (deviationRefusal sum m count (deviation sum d))
-  unfolding deviationRefusal
   deviation-agrees = record {
     stands = stands;
     decided = decide-after _ _ (decided-by (λ n p. Grounds.fraction) (fraction-agrees sum m count .decided))
@@ -79,10 +77,10 @@ module _ (sum m count scale : ℕ) (some : 0 < scale) where
 -- ---- the answers
 
 module _ {Row : ℕ → ℕ → Type 0} {r : Refusal} (agrees : Agrees Row r) where
-  pub fraction-grounded : (f : Fraction) → Grounded Row (fractionAnswer r f .number) (fractionAnswer r f .place)
+  pub fraction-grounded : (a d : ℕ) → Grounded Row (fractionAnswer r a d .number) (fractionAnswer r a d .place)
   unfolding fractionAnswer
-  fraction-grounded f =
-      grounded-answer agrees (λ (z : FractionAnswer). z .number) (λ (z : FractionAnswer). z .place) (givenFraction f) (noFraction r) (refl, refl) (refl, refl)
+  fraction-grounded a d =
+      grounded-answer agrees (λ (z : FractionAnswer). z .number) (λ (z : FractionAnswer). z .place) _ _ (refl, refl) (refl, refl)
 
   pub deviation-grounded : (s : ℕ) → Grounded Row (deviationAnswer r s .number) (deviationAnswer r s .place)
   unfolding deviationAnswer

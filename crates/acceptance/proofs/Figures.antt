@@ -1,5 +1,6 @@
 -- Every starred figure of the rules holds, over what each entry's own contract allows.
 use mathlib.Core.Path.{_≡_, refl}
+use Prim.Native.Nat.{_+_, _*_}
 use denote.Ref.{now}
 use lib.ListN.{length}
 use Rattle.laws.specs.Single.{Always}
@@ -9,19 +10,18 @@ use Rattle.laws.specs.Greatest.{bitByBit}
 use Rattle.wide.specs.Wide.{value}
 use Rattle.record.specs.Refusals.{inRange, rangeRefusal, sizeRefusal, recordRefusal}
 use Rattle.record.specs.Answers.{countAnswer, bufferLeft}
-use Rattle.frequency.specs.Frequency.{phasesFrom, phases, firstLeaving, phaseRefusal, phaseAnswer, phaseBuffer}
-use Rattle.drift.specs.Drift.{driftP, driftR, driftRefusal, driftAnswer, floored, withoutDrift, removalRefusal, removalAnswer, removalBuffer}
+use Rattle.frequency.specs.Frequency.{phases, firstLeaving, phaseRefusal}
+use Rattle.drift.specs.Drift.{driftP, driftR, driftRefusal, driftAnswer, floored, withoutDrift, removalRefusal}
 use Rattle.sums.specs.Published.{difference, allanCount, allanSum, allanDenominator, windowSum, modifiedCount, modifiedSum, timeDenominator}
-use Rattle.variances.specs.Fractions.{euclid, gcd, lowestTerms}
+use Rattle.variances.specs.Fractions.{euclid, gcd}
 use Rattle.variances.specs.Deviations.{deviation}
 use Rattle.sums.specs.Answers.{sumAnswer, allanSumAnswer, modifiedSumAnswer}
-use Rattle.variances.specs.Answers.{figureRefusal, fractionAnswer, allanFractionAnswer, timeFractionAnswer, deviationRefusal, deviationAnswer, allanDeviationAnswer}
+use Rattle.variances.specs.Answers.{figureRefusal, fractionAnswer, allanFractionAnswer, timeFractionAnswer, deviationAnswer, allanDeviationAnswer}
 use Rattle.noise.specs.Noise.{alphaOf, kappaOf, noiseOf, noiseRefusal, noiseAnswer, typeAnswer}
 use Rattle.noise.specs.Bars.{barWidth, barHalf, barsRefusal, barOf, barsAnswer}
-use Rattle.phr.specs.Bytes.{lowFirst, twosComplement, valueBytes, valuesBytes}
+use Rattle.phr.specs.Bytes.{lowFirst, twosComplement, valuesBytes}
 use Rattle.phr.specs.File.{header, fileOf, mostValues, valueInRange}
-use Rattle.phr.specs.Reading.{rightLength}
-use Rattle.phr.specs.Writing.{writeRefusal, writeAnswer, writeBuffer}
+use Rattle.phr.specs.Writing.{writeRefusal}
 use Rattle.sums.proofs.allan_sum.Reads as allan-sum
 use Rattle.sums.proofs.allan_sum.Kinds as allan-sum-kinds
 use Rattle.sums.proofs.modified_sum.Reads as modified-sum
@@ -47,7 +47,7 @@ use Rattle.phr.proofs.write_file.Kinds as write-file-kinds
 use Rattle.acceptance.specs.Figures.{Starred}
 
 pub starred-figures : Starred
-unfolding sum sumℤ tabulate firstFailing bitByBit inRange rangeRefusal sizeRefusal recordRefusal countAnswer bufferLeft phasesFrom phases firstLeaving phaseRefusal driftP driftR driftRefusal driftAnswer floored withoutDrift removalRefusal difference allanCount allanSum allanDenominator windowSum modifiedCount modifiedSum timeDenominator euclid gcd lowestTerms deviation sumAnswer allanSumAnswer modifiedSumAnswer figureRefusal fractionAnswer allanFractionAnswer timeFractionAnswer deviationRefusal deviationAnswer allanDeviationAnswer alphaOf kappaOf noiseOf noiseRefusal noiseAnswer typeAnswer barWidth barHalf barsRefusal barOf barsAnswer lowFirst twosComplement valueBytes valuesBytes header fileOf mostValues valueInRange rightLength writeRefusal
+unfolding sum sumℤ tabulate firstFailing bitByBit inRange rangeRefusal sizeRefusal recordRefusal countAnswer bufferLeft phases firstLeaving phaseRefusal driftP driftR driftRefusal driftAnswer floored withoutDrift removalRefusal difference allanCount allanSum allanDenominator windowSum modifiedCount modifiedSum timeDenominator euclid gcd deviation sumAnswer allanSumAnswer modifiedSumAnswer figureRefusal fractionAnswer allanFractionAnswer timeFractionAnswer deviationAnswer allanDeviationAnswer alphaOf kappaOf noiseOf noiseRefusal noiseAnswer typeAnswer barWidth barHalf barsRefusal barOf barsAnswer lowFirst twosComplement valuesBytes header fileOf mostValues valueInRange writeRefusal
 starred-figures = record {
   squares-at-1 = (refl, refl);
   squares-deviation = refl;
@@ -61,16 +61,14 @@ starred-figures = record {
   spike-at-2 = (refl, refl);
   spike-modified = (refl, refl);
   ends = refl;
-  phase-count = refl;
-  phases = refl;
-  squares-drift = (refl, refl, refl);
-  falling-drift = (refl, refl, refl);
+  phased = (refl, refl);
+  squares-drift = (refl, (refl, refl));
+  falling-drift = (refl, (refl, refl));
   bar = refl;
   flicker-phase = (refl, refl);
   at-the-bound = (refl, refl);
   past-the-bound = (refl, refl);
-  file-length = refl;
-  file = refl;
+  file = (refl, refl);
 }
 
 -- ---- whatever an entry's contract allows is what the rows compute
@@ -96,7 +94,8 @@ pub allan-deviation-computes : Always 0 allan-deviation-kinds.ps allan-deviation
 allan-deviation-computes κs args z w is = is
 
 pub phase-from-frequency-computes : Always 2 phase-from-frequency-kinds.ps phase-from-frequency-kinds.r phase-from-frequency.Post
-    (λ κs args z w. let ys = now (args .0) in let buffer = now (args .1 .0) in (z ≡ phaseAnswer ys (length buffer)) × (w .1 .0 ≡ phaseBuffer ys buffer))
+    (λ κs args z w. let ys = now (args .0) in let buffer = now (args .1 .0) in let r = phaseRefusal ys (length buffer) in
+    (z ≡ countAnswer r (length ys + 1)) × (w .1 .0 ≡ bufferLeft r (phases ys) buffer))
 phase-from-frequency-computes κs args z w is = is
 
 pub drift-figure-computes : Always 1 drift-figure-kinds.ps drift-figure-kinds.r drift-figure.Post
@@ -104,7 +103,8 @@ pub drift-figure-computes : Always 1 drift-figure-kinds.ps drift-figure-kinds.r 
 drift-figure-computes κs args z w is = is
 
 pub remove-drift-computes : Always 2 remove-drift-kinds.ps remove-drift-kinds.r remove-drift.Post
-    (λ κs args z w. let xs = now (args .0) in let buffer = now (args .1 .0) in (z ≡ removalAnswer xs (length buffer)) × (w .1 .0 ≡ removalBuffer xs buffer))
+    (λ κs args z w. let xs = now (args .0) in let buffer = now (args .1 .0) in let r = removalRefusal xs (length buffer) in
+    (z ≡ countAnswer r (length xs)) × (w .1 .0 ≡ bufferLeft r (withoutDrift xs) buffer))
 remove-drift-computes κs args z w is = is
 
 pub noise-type-computes : Always 0 noise-type-kinds.ps noise-type-kinds.r noise-type.Post
@@ -117,5 +117,5 @@ bars-computes κs args z w is = is
 
 pub write-file-computes : Always 2 write-file-kinds.ps write-file-kinds.r write-file.Post
     (λ κs args z w. let kind = args .0 in let values = now (args .1 .0) in let buffer = now (args .1 .1 .0) in
-    (z ≡ writeAnswer kind values (length buffer)) × (w .1 .1 .0 ≡ writeBuffer kind values buffer))
+    let r = writeRefusal kind values (length buffer) in (z ≡ countAnswer r (8 + 8 * length values)) × (w .1 .1 .0 ≡ bufferLeft r (fileOf kind values) buffer))
 write-file-computes κs args z w is = is

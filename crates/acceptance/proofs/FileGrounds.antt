@@ -17,8 +17,8 @@ use Rattle.record.specs.Answers.{countAnswer}
 use Rattle.record.specs.declared.CountAnswer.{CountAnswer}
 use Rattle.phr.specs.Bytes.{valueAt}
 use Rattle.phr.specs.File.{mostValues, valueInRange}
-use Rattle.phr.specs.Reading.{headerTests, soundUpTo, headerRefusal, kindOf, countOf, rightLength, valuesFrom, valuesOf, firstOutside, readRefusal, readAnswer}
-use Rattle.phr.specs.Writing.{writeRefusal, writeAnswer}
+use Rattle.phr.specs.Reading.{headerTests, soundUpTo, kindOf, countOf, valuesOf, readRefusal, readAnswer}
+use Rattle.phr.specs.Writing.{writeRefusal}
 use Rattle.phr.specs.declared.ReadAnswer.{ReadAnswer}
 use Rattle.phr.proofs.HeaderLaws.{no-test-past-kind, passed-before}
 use Rattle.phr.proofs.ReadCases.{sound-within, header-wrong, too-many-values, file-too-short, file-too-long, no-room-for-values, value-outside, values-of-length}
@@ -26,7 +26,7 @@ use Rattle.phr.proofs.WriteCases.{no-such-kind, too-many-to-write, no-room-for-
 use Rattle.acceptance.specs.Grounds
 use Rattle.acceptance.specs.Grounds.{NoRow, Grounded, First, None, TooMany, FarValue, Right, Wrong, OfHeader, OfReading, OfWriting}
 use Rattle.acceptance.proofs.Grounding.{Decided, Stands, Agrees, decide, decide-last, grounded-answer}
-use Rattle.acceptance.proofs.TypeGrounds.{never-false}
+use Rattle.acceptance.proofs.RecordGrounds.{first-is, first-there}
 
 -- ---- what a kind allows
 
@@ -71,24 +71,16 @@ module _ (kind : ℕ) (values : List ℤ) (n : ℕ) (entry : ℕ → ℤ) (known
   entry-fails-far : (k : ℕ) → k < n → valueInRange kind (at values k) ≡ false → Far k
   entry-fails-far k inside e = fails-far kind (entry k) known (rw (same k inside) at e)
 
-  first-is-found : {i : ℕ} → First n Far i → found ≡ i
-  first-is-found {i} first =
-      first-failing-is (valueInRange kind) (pos 0) values i (omega (arith, first .inside))
-      (λ k earlier. never-false _ (λ e. first .before k earlier (entry-fails-far k (omega (arith, first .inside)) e)))
-      (far-entry-fails i (first .inside) (first .bad))
+  pub first-is-found : {i : ℕ} → First n Far i → found ≡ i
+  first-is-found = first-is (valueInRange kind) (pos 0) values whole entry-fails-far far-entry-fails
 
-  found-is-first : found < n → First n Far found
-  found-is-first inside = record {
-    inside = inside;
-    bad = entry-fails-far found inside (fails-there (valueInRange kind) (pos 0) values (omega arith));
-    before = λ k earlier far. true≢false (sym (passes-before (valueInRange kind) (pos 0) values k earlier) ∙ far-entry-fails k (omega arith) far);
-  }
+  pub found-is-first : ltb found n ≡ true → First n Far found
+  found-is-first = first-there (valueInRange kind) (pos 0) values whole entry-fails-far far-entry-fails
 
 -- ---- writing: 9, 2, 6, 3
 
 module _ (kind : ℕ) (values : List ℤ) (room : ℕ) where
   writing-stands : {number place : ℕ} → OfWriting kind values room number place → Stands number place (writeRefusal kind values room)
-  unfolding rightLength
   writing-stands (Grounds.no-kind h) = (λ e. omega arith, no-such-kind kind values room h)
   writing-stands (Grounds.many many) =
       let above = too-many-above kind (length values) many in
@@ -99,7 +91,7 @@ module _ (kind : ℕ) (values : List ℤ) (room : ℕ) where
       (λ e. omega arith, value-unfit kind values room known (few-enough kind _ known few) enough (omega (arith, first .inside)) ∙ ap (refused 3) is)
 
   writing-decided : Decided (OfWriting kind values room) (writeRefusal kind values room)
-  unfolding writeRefusal rightLength
+  unfolding writeRefusal
   writing-decided =
       decide _ 9 5 (omega arith) (λ t. Grounds.no-kind (leb-false kind 1 (not-true _ t))) _
       (λ f. let known = leb-true kind 1 (not-false _ f) in
@@ -109,12 +101,13 @@ module _ (kind : ℕ) (values : List ℤ) (room : ℕ) where
       decide _ 6 0 (omega arith) (λ t. Grounds.no-room known few (ltb-true room _ t)) _
       (λ h. decide-last _ 3 _ (omega arith)
       (λ t. Grounds.range known few (ltb-false room _ h)
-      (found-is-first kind values (length values) (at values) known refl (λ k h. refl) (ltb-true _ (length values) t))))))
+      (found-is-first kind values (length values) (at values) known refl (λ k h. refl) t)))))
 
   pub writing-agrees : Agrees (OfWriting kind values room) (writeRefusal kind values room)
   writing-agrees = record { stands = writing-stands; decided = writing-decided }
 
-  pub writing-grounded : Grounded (OfWriting kind values room) (writeAnswer kind values room .number) (writeAnswer kind values room .place)
+  pub writing-grounded : Grounded (OfWriting kind values room) (countAnswer (writeRefusal kind values room) (8 + 8 * length values) .number)
+      (countAnswer (writeRefusal kind values room) (8 + 8 * length values) .place)
   unfolding countAnswer
   writing-grounded = grounded-answer writing-agrees (λ (a : CountAnswer). a .number) (λ a. a .place) _ _ (refl, refl) (refl, refl)
 
@@ -234,11 +227,10 @@ module _ (bytes : List ℕ) (room : ℕ) where
   value k = valueAt bytes (8 + 8 * k)
 
   entry-is : (k : ℕ) → k < countOf bytes → at (valuesOf bytes) k ≡ value k
-  unfolding valuesOf valuesFrom
+  unfolding valuesOf
   entry-is k inside = tabulate-entry (countOf bytes) value (pos 0) k inside
 
   reading-stands : {number place : ℕ} → OfReading bytes room number place → Stands number place (readRefusal bytes room)
-  unfolding rightLength firstOutside
   reading-stands (Grounds.header row) = header-stands row
   reading-stands (Grounds.too-short rowless h) =
       (λ e. omega arith, file-too-short bytes room (rowless-sound rowless) (rowless-few rowless) h)
@@ -269,7 +261,7 @@ module _ (bytes : List ℕ) (room : ℕ) where
           rw least (Grounds.too-long rowless (omega arith))
 
   reading-decided : Decided (OfReading bytes room) (readRefusal bytes room)
-  unfolding readRefusal headerRefusal rightLength firstOutside
+  unfolding readRefusal
   reading-decided =
       decide _ 9 _ (omega arith) (λ t. Grounds.header (unsound-row (ltb-true _ 8 t))) _
       (λ f. let sound = ltb-false (end) 8 f in let known = kind-known sound in
@@ -281,7 +273,7 @@ module _ (bytes : List ℕ) (room : ℕ) where
       decide _ 6 0 (omega arith) (λ t. Grounds.no-room rowless whole (ltb-true room (countOf bytes) t)) _
       (λ v. decide-last _ 3 _ (omega arith)
       (λ t. Grounds.range rowless whole (ltb-false room (countOf bytes) v)
-      (found-is-first (kindOf bytes) (valuesOf bytes) (countOf bytes) value known (values-of-length bytes) entry-is (ltb-true _ (countOf bytes) t)))))))
+      (found-is-first (kindOf bytes) (valuesOf bytes) (countOf bytes) value known (values-of-length bytes) entry-is t))))))
 
   pub reading-agrees : Agrees (OfReading bytes room) (readRefusal bytes room)
   reading-agrees = record { stands = reading-stands; decided = reading-decided }

@@ -26,7 +26,6 @@ use Rattle.variances.proofs.allan_deviation.Reads as allan-deviation
 use Rattle.variances.proofs.allan_deviation.Kinds as allan-deviation-kinds
 use Rattle.variances.proofs.time_deviation.Reads as time-deviation
 use Rattle.variances.proofs.time_deviation.Kinds as time-deviation-kinds
-use Rattle.plot.specs.Dots.{allanDotAnswer, timeDotAnswer}
 use Rattle.plot.proofs.dots.allan_dot.Reads as allan-dot
 use Rattle.plot.proofs.dots.allan_dot.Kinds as allan-dot-kinds
 use Rattle.plot.proofs.dots.time_dot.Reads as time-dot
@@ -115,12 +114,12 @@ modified-sum-grounds κs args z w is = rw is (sum-grounded (multiple-agrees 1092
 pub allan-fraction-grounds : Always 0 allan-fraction-kinds.ps allan-fraction-kinds.r allan-fraction.Post
     (λ κs args z w. let sum = value (args .0) in let m = args .1 .0 in let count = args .1 .1 .0 in Grounded (OfFraction sum m count) (z .number) (z .place))
 unfolding allanFractionAnswer
-allan-fraction-grounds κs args z w is = rw is (fraction-grounded (fraction-agrees _ _ _) _)
+allan-fraction-grounds κs args z w is = rw is (fraction-grounded (fraction-agrees _ _ _) _ _)
 
 pub time-fraction-grounds : Always 0 time-fraction-kinds.ps time-fraction-kinds.r time-fraction.Post
     (λ κs args z w. let sum = value (args .0) in let m = args .1 .0 in let count = args .1 .1 .0 in Grounded (OfFraction sum m count) (z .number) (z .place))
 unfolding timeFractionAnswer
-time-fraction-grounds κs args z w is = rw is (fraction-grounded (fraction-agrees _ _ _) _)
+time-fraction-grounds κs args z w is = rw is (fraction-grounded (fraction-agrees _ _ _) _ _)
 
 pub allan-deviation-grounds : Always 0 allan-deviation-kinds.ps allan-deviation-kinds.r allan-deviation.Post
     (λ κs args z w. let sum = value (args .0) in let m = args .1 .0 in let count = args .1 .1 .0 in
@@ -166,13 +165,13 @@ float-sums-grounds κs args z w is = rw (is .0) (readings-grounded _ _ _)
 pub allan-dot-grounds : Always 0 allan-dot-kinds.ps allan-dot-kinds.r allan-dot.Post
     (λ κs args z w. let sum = value (args .0) in let m = args .1 .0 in let count = args .1 .1 .0 in
     Grounded (OfDot sum m count (2 * (m * m) * count)) (z .number) (z .place))
-unfolding allanDotAnswer allanDeviationAnswer allanDenominator
+unfolding allanDeviationAnswer allanDenominator
 allan-dot-grounds κs args z w is = rw is (dot-grounded _ _ _ _ (deviation-agrees _ _ _ 2 (omega arith)) _)
 
 pub time-dot-grounds : Always 0 time-dot-kinds.ps time-dot-kinds.r time-dot.Post
     (λ κs args z w. let sum = value (args .0) in let m = args .1 .0 in let count = args .1 .1 .0 in
     Grounded (OfDot sum m count (6 * (m * m) * count)) (z .number) (z .place))
-unfolding timeDotAnswer timeDeviationAnswer timeDenominator
+unfolding timeDeviationAnswer timeDenominator
 time-dot-grounds κs args z w is = rw is (dot-grounded _ _ _ _ (deviation-agrees _ _ _ 6 (omega arith)) _)
 
 pub drawn-number-grounds : Always 0 drawn-number-kinds.ps drawn-number-kinds.r drawn-number.Post
@@ -240,11 +239,11 @@ plg-noise-of-record-grounds κs args z w is = rw is (type-grounded (record-type-
 pub plg-allan-dot-grounds : Always 0 plg-allan-dot-kinds.ps plg-allan-dot-kinds.r plg-allan-dot.Post
     (λ κs args z w. let sum = value (args .0) in let m = args .1 .0 in let count = args .1 .1 .0 in
     Grounded (OfDot sum m count (2 * (m * m) * count)) (z .number) (z .place))
-unfolding toldDot allanDotAnswer allanDeviationAnswer allanDenominator
+unfolding toldDot allanDeviationAnswer allanDenominator
 plg-allan-dot-grounds κs args z w is = rw is (dot-grounded _ _ _ _ (deviation-agrees _ _ _ 2 (omega arith)) _)
 
 pub plg-time-dot-grounds : Always 0 plg-time-dot-kinds.ps plg-time-dot-kinds.r plg-time-dot.Post
     (λ κs args z w. let sum = value (args .0) in let m = args .1 .0 in let count = args .1 .1 .0 in
     Grounded (OfDot sum m count (6 * (m * m) * count)) (z .number) (z .place))
-unfolding toldDot timeDotAnswer timeDeviationAnswer timeDenominator
+unfolding toldDot timeDeviationAnswer timeDenominator
 plg-time-dot-grounds κs args z w is = rw is (dot-grounded _ _ _ _ (deviation-agrees _ _ _ 6 (omega arith)) _)

@@ -8,7 +8,7 @@ use native.Mathlib.Omega.{arith}
 use borrow.Author.Tests.{ltb-true, ltb-false, leb-true, leb-false, le-leb, lt-leb, lt-ltb, not-false, not-true, eqb-true, eqb-false}
 use lib.IntN.{ℤ, natAbs}
 use lib.ListN.{length}
-use Rattle.laws.proofs.Tests.{first-true, second-true}
+use Rattle.laws.proofs.Tests.{never-true, never-false, either-fails, first-true, second-true}
 use Rattle.record.specs.Refusals.{refusedIf, inRange}
 use Rattle.record.specs.declared.Refusal.{Refusal}
 use Rattle.meter.specs.Meter.{factorFits, holdsTogether, slot, ringHolds}
@@ -20,7 +20,7 @@ use Rattle.acceptance.specs.Grounds
 use Rattle.acceptance.specs.Grounds.{Grounded, Broken, BrokenWith, OfStart, OfSample, OfReport}
 use Rattle.acceptance.proofs.Grounding.{Decided, Stands, Agrees, decide, decide-last, grounded, grounded-answer}
 use Rattle.acceptance.proofs.RecordGrounds.{test-between, test-outside}
-use Rattle.acceptance.proofs.TypeGrounds.{never-true, never-false, either-fails, outside-fails}
+use Rattle.acceptance.proofs.TypeGrounds.{outside-fails}
 
 -- ---- tests
 

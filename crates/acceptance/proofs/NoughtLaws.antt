@@ -22,7 +22,8 @@ use Rattle.sums.specs.Answers.{sumAnswer, partOf, noPart}
 use Rattle.drift.specs.Drift.{driftRefusal, driftAnswer}
 use Rattle.readings.specs.Readings.{samplesOf}
 use Rattle.readings.proofs.RefusalLaws.{samples-length}
-use Rattle.readings.specs.Answers.{floatRefusal, floatAnswer, floatBuffer}
+use Rattle.readings.specs.Answers.{floatRefusal, floatAnswer}
+use Rattle.readings.proofs.AnswerLaws.{floatBuffer}
 use Rattle.readings.specs.declared.FloatSums.{FloatSums}
 use Rattle.meter.specs.Meter.{holdsTogether, withSample, ringWith}
 use Rattle.meter.specs.Answers.{meterAnswer, sampleRefusal, sampleAnswer, ringLeft, reportAnswer}
@@ -30,16 +31,16 @@ use Rattle.meter.specs.declared.Meter.{Meter}
 use Rattle.meter.specs.declared.MeterAnswer.{MeterAnswer}
 use Rattle.meter.proofs.TestLaws.{holds-together, slot-inside, ring-holds, let-in-by-number}
 use Rattle.meter.specs.declared.Report.{Report}
-use Rattle.phr.specs.Reading.{readRefusal, readAnswer, readBuffer, kindOf, valuesOf, countOf}
+use Rattle.phr.specs.Reading.{readRefusal, readAnswer, kindOf, valuesOf, countOf}
+use Rattle.phr.proofs.AnswerCases.{readBuffer}
 use Rattle.phr.proofs.ReadCases.{values-of-length}
 use Rattle.phr.specs.declared.ReadAnswer.{ReadAnswer}
 use Rattle.plot.specs.Drawn.{plusZero, drawnRefusal, drawnAnswer}
 use Rattle.plot.specs.Dots.{dotNumber, dotValue, dotAnswer}
 use Rattle.ploegelster.specs.Boundary.{dotKind, toldDot}
 use Rattle.variances.specs.declared.DeviationAnswer.{DeviationAnswer}
-use Rattle.variances.specs.Fractions.{Fraction}
 use Rattle.variances.specs.Answers.{fractionAnswer, deviationAnswer}
-use Rattle.noise.specs.Noise.{noiseAnswer}
+use Rattle.noise.specs.Noise.{noiseAnswer, toldAlpha}
 use Rattle.noise.specs.Bars.{noBar, barsRefusal, barsAnswer}
 use Rattle.noise.specs.declared.Noise.{Noise}
 use Rattle.noise.specs.declared.Noise.the-variants.{WhitePhase}
@@ -219,9 +220,9 @@ told-dot-noughts d some = rw (dot-noughts d some .0) (refl, refl)
 
 -- ---- fractions and deviations
 
-pub fraction-noughts : (r : Refusal) (f : Fraction) → Refused (fractionAnswer r f .number) → SumNought (fractionAnswer r f .numerator) (fractionAnswer r f .denominator)
+pub fraction-noughts : (r : Refusal) (n d : ℕ) → Refused (fractionAnswer r n d .number) → SumNought (fractionAnswer r n d .numerator) (fractionAnswer r n d .denominator)
 unfolding fractionAnswer
-fraction-noughts r f some = rw (by-refusal r (λ nothing. rw nothing) some) (refl, refl)
+fraction-noughts r n d some = rw (by-refusal r (λ nothing. rw nothing) some) (refl, refl)
 
 pub deviation-noughts : (r : Refusal) (d : ℕ) → Refused (deviationAnswer r d .number) → deviationAnswer r d .deviation ≡ 0
 unfolding deviationAnswer
@@ -234,7 +235,7 @@ unfolding noiseAnswer
 noise-noughts r t some = rw (by-refusal r (λ nothing. rw nothing) some) refl
 
 pub told-noise-noughts : (a : NoiseAnswer) → Refused (toldNoise a .number) → toldNoise a .alpha ≡ pos 0
-unfolding toldNoise
+unfolding toldNoise toldAlpha
 told-noise-noughts a some = rw (ne-eqb (a .number) 0 some) refl
 
 pub bars-noughts : (r : ℕ) (t : Noise) (m : ℕ) → Refused (barsAnswer r t m .number) → BarsNought (barsAnswer r t m)

@@ -33,35 +33,36 @@ use Rattle.sums.specs.Published.{allanSum, allanCount, allanDenominator, modifi
 use Rattle.sums.specs.Answers.{allanDemand, modifiedDemand, partOf, allanSumAnswer, modifiedSumAnswer}
 use Rattle.sums.specs.declared.SumAnswer.{SumAnswer}
 use Rattle.sums.proofs.AnswerLaws.{allan-sum-given, modified-sum-given}
-use Rattle.variances.specs.Fractions.{lowestTerms}
 use Rattle.variances.specs.Deviations.{within, deviation}
-use Rattle.variances.specs.Answers.{figureRefusal, allanFractionAnswer, timeFractionAnswer, deviationRefusal, deviationAnswer, allanDeviationAnswer, timeDeviationAnswer}
+use Rattle.variances.specs.Answers.{figureRefusal, allanFractionAnswer, timeFractionAnswer, deviationAnswer, allanDeviationAnswer, timeDeviationAnswer}
 use Rattle.variances.specs.declared.DeviationAnswer.{DeviationAnswer}
 use Rattle.variances.proofs.FigureLaws.{Allowed, unrefused-allowed, denominator-above-nought}
-use Rattle.variances.proofs.FractionLaws.{lowest-same-value, lowest-no-common, lowest-of-nought}
+use Rattle.variances.proofs.FractionLaws.{lowestTerms, lowest-same-value, lowest-no-common, lowest-of-nought}
 use Rattle.variances.proofs.DeviationLaws.{deviation-is-greatest}
-use Rattle.variances.proofs.AnswerLaws.{givenDeviation, largeRefusal, allan-fraction-given, time-fraction-given, allan-deviation-given, time-deviation-given}
+use Rattle.variances.proofs.AnswerLaws.{deviationRefusal, givenDeviation, largeRefusal, allan-fraction-given, time-fraction-given, allan-deviation-given, time-deviation-given}
 use Rattle.variances.proofs.Bounds.{allan-allowed, allan-deviation-within, modified-allowed, time-deviation-within}
 use Rattle.readings.specs.Readings.{samplesOf, Exactly}
-use Rattle.readings.specs.Answers.{floatRefusal, floatAnswer, floatBuffer}
+use Rattle.readings.specs.Answers.{floatRefusal, floatAnswer}
+use Rattle.readings.proofs.AnswerLaws.{floatBuffer}
 use Rattle.readings.proofs.ReadingLaws.{sample-exact}
 use Rattle.readings.proofs.RefusalLaws.{samples-length, sample-at, samples-taken, unrefused-sample, unrefused-readings, unrefused-size}
 use Rattle.meter.proofs.Running.{publishedReport}
 use Rattle.phr.specs.File.{fileOf, Proper, IsFile, AreBytes}
-use Rattle.phr.specs.Reading.{readRefusal, readAnswer, readBuffer, valuesOf, rightLength}
+use Rattle.phr.specs.Reading.{readRefusal, readAnswer, valuesOf}
+use Rattle.phr.proofs.AnswerCases.{readBuffer}
 use Rattle.phr.specs.Writing.{writeRefusal}
 use Rattle.phr.specs.declared.ReadAnswer.{ReadAnswer}
 use Rattle.phr.proofs.WriteCases.{Writable, writable-none}
 use Rattle.phr.proofs.RoundTrip.{accepted-exactly, buffer-has-file, file-is-read, file-answer, values-come-back}
 use Rattle.plot.specs.Drawn.{GreatestDouble, drawnAnswer}
-use Rattle.plot.specs.Dots.{dotNumber, dotValue, dotAnswer, allanDotAnswer, timeDotAnswer}
+use Rattle.plot.specs.Dots.{dotNumber, dotValue, dotAnswer}
 use Rattle.plot.proofs.DrawnLaws.{drawn-is-greatest, drawn-given}
 use Rattle.plot.proofs.DotLaws.{nought-dot, drawn-dot}
-use Rattle.noise.specs.Noise.{alphaOf, kappaOf, noiseOf, noiseRefusal, typeAnswer, noiseDemand, timeDeviation, recordTypeAnswer}
+use Rattle.noise.specs.Noise.{alphaOf, kappaOf, noiseOf, noiseRefusal, typeAnswer, timeDeviation, recordTypeAnswer}
 use Rattle.noise.specs.Bars.{barWidth, barHalf, barsRefusal, barOf, barsAnswer}
 use Rattle.noise.specs.declared.Noise.{Noise}
 use Rattle.noise.specs.declared.Noise.the-variants.{WhitePhase, FlickerPhase, WhiteFrequency, FlickerFrequency, RandomWalkFrequency}
-use Rattle.noise.proofs.NoiseLaws.{noise-given, sound-at-factor, sound-at-double}
+use Rattle.noise.proofs.NoiseLaws.{noiseDemand, noise-given, sound-at-factor, sound-at-double}
 use Rattle.noise.proofs.BarLaws.{unrefused-barred, half-is-greatest, half-within}
 use Rattle.acceptance.specs.Grounds
 use Rattle.acceptance.specs.Grounds.{NoRow, OfDrawn}
@@ -240,24 +241,23 @@ module _ (bytes : List ℕ) (room : ℕ) (all : AreBytes bytes) where
 
 -- what a file may hold is not refused where there is room for the file
 pub proper-writable : {kind : ℕ} {values : List ℤ} {room : ℕ} → Proper kind values → 8 + 8 * length values ≤ room → Writable kind values room
-unfolding rightLength
 proper-writable proper enough = record { known = proper .known; few = proper .few; enough = enough; in-range = proper .in-range }
 
 module _ (kind : ℕ) (values : List ℤ) where
   -- what writing leaves at the front of the buffer is the file
   pub file-left : (buffer : List ℕ) → Writable kind values (length buffer) →
       let r : Refusal = writeRefusal kind values (length buffer) in
-      take (countAnswer r (rightLength (length values)) .count) (bufferLeft r (fileOf kind values) buffer) ≡ fileOf kind values
+      take (countAnswer r (8 + 8 * length values) .count) (bufferLeft r (fileOf kind values) buffer) ≡ fileOf kind values
   file-left buffer writable =
       let nothing = writable-none kind values (length buffer) writable in
       ap (λ (z : CountAnswer). take (z .count) (bufferLeft (writeRefusal kind values (length buffer)) (fileOf kind values) buffer))
-      (count-given nothing (rightLength (length values)) (fileOf kind values) buffer)
+      (count-given nothing (8 + 8 * length values) (fileOf kind values) buffer)
       ∙ buffer-has-file kind values buffer nothing
 
   pub write-answered : (buffer : List ℕ) → Writable kind values (length buffer) →
-      countAnswer (writeRefusal kind values (length buffer)) (rightLength (length values)) .number ≡ 0
+      countAnswer (writeRefusal kind values (length buffer)) (8 + 8 * length values) .number ≡ 0
   write-answered buffer writable =
-      ap (λ (z : CountAnswer). z .number) (count-given (writable-none kind values (length buffer) writable) (rightLength (length values)) (fileOf kind values) buffer)
+      ap (λ (z : CountAnswer). z .number) (count-given (writable-none kind values (length buffer) writable) (8 + 8 * length values) (fileOf kind values) buffer)
 
   -- reading it gives the kind and the values
   pub reads-back : (buffer : List ℤ) → Proper kind values → length values ≤ length buffer →
@@ -306,11 +306,9 @@ module _ (a d : ℕ) (some : 0 < d) where
 -- where a deviation is given, its sum, factor and count are allowed, and it is not above 2^62
 module _ (s m count r : ℕ) (nothing : deviationRefusal s m count r ≡ none) where
   given-allowed : Allowed s m count
-  unfolding deviationRefusal
   given-allowed = unrefused-allowed s m count (first-refuses-nothing (figureRefusal s m count) (largeRefusal r) (ap (λ (t : Refusal). t .number) nothing))
 
   given-within : r ≤ 2 ^ 62
-  unfolding deviationRefusal
   given-within =
       ltb-false (2 ^ 62) r
       (test-fails _ 3 0 (omega arith) (rest-refuses-nothing (figureRefusal s m count) (largeRefusal r) (ap (λ (t : Refusal). t .number) nothing)))
@@ -330,27 +328,27 @@ module _ (s m count : ℕ) where
 
   module _ (nothing : deviationRefusal s m count (deviation s (2 * (m * m) * count)) ≡ none) where
     allan-known : Allowed s m count
-    allan-known = given-allowed _ _ _ _ nothing
+    allan-known = given-allowed s m count (deviation s (2 * (m * m) * count)) nothing
 
     pub allan-deviation-of : Greatest (within s (2 * (m * m) * count)) (allanDeviationAnswer s m count .deviation)
     unfolding allanDeviationAnswer allanDenominator
     allan-deviation-of = deviation-of s _ (denominator-above-nought allan-known 2 (omega arith)) (allan-known .sum-below) nothing
 
-    pub allan-dot-of : DotOf s (2 * (m * m) * count) (allanDotAnswer s m count .dot)
-    unfolding allanDotAnswer allanDeviationAnswer allanDenominator
-    allan-dot-of = dot-of s _ (denominator-above-nought allan-known 2 (omega arith)) (allan-known .sum-below) nothing (given-within _ _ _ _ nothing)
+    pub allan-dot-of : DotOf s (2 * (m * m) * count) (dotAnswer (allanDeviationAnswer s m count) .dot)
+    unfolding allanDeviationAnswer allanDenominator
+    allan-dot-of = dot-of s _ (denominator-above-nought allan-known 2 (omega arith)) (allan-known .sum-below) nothing (given-within s m count (deviation s (2 * (m * m) * count)) nothing)
 
   module _ (nothing : deviationRefusal s m count (deviation s (6 * (m * m) * count)) ≡ none) where
     time-known : Allowed s m count
-    time-known = given-allowed _ _ _ _ nothing
+    time-known = given-allowed s m count (deviation s (6 * (m * m) * count)) nothing
 
     pub time-deviation-of : Greatest (within s (6 * (m * m) * count)) (timeDeviationAnswer s m count .deviation)
     unfolding timeDeviationAnswer timeDenominator
     time-deviation-of = deviation-of s _ (denominator-above-nought time-known 6 (omega arith)) (time-known .sum-below) nothing
 
-    pub time-dot-of : DotOf s (6 * (m * m) * count) (timeDotAnswer s m count .dot)
-    unfolding timeDotAnswer timeDeviationAnswer timeDenominator
-    time-dot-of = dot-of s _ (denominator-above-nought time-known 6 (omega arith)) (time-known .sum-below) nothing (given-within _ _ _ _ nothing)
+    pub time-dot-of : DotOf s (6 * (m * m) * count) (dotAnswer (timeDeviationAnswer s m count) .dot)
+    unfolding timeDeviationAnswer timeDenominator
+    time-dot-of = dot-of s _ (denominator-above-nought time-known 6 (omega arith)) (time-known .sum-below) nothing (given-within s m count (deviation s (6 * (m * m) * count)) nothing)
 
 -- with the sum and the count of a record that is not refused, the deviation is given
 module _ (m : ℕ) (xs : List ℤ) where

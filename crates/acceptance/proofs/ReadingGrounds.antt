@@ -14,7 +14,7 @@ use Rattle.laws.specs.Lists.{firstFailing}
 use Rattle.record.specs.Refusals.{refused, refusedIf, sizeRefusal}
 use Rattle.record.specs.declared.Refusal.{Refusal}
 use Rattle.sums.specs.Answers.{allanDemand}
-use Rattle.readings.specs.Readings.{readingNumber, firstBad, readingRefusal}
+use Rattle.readings.specs.Readings.{readingNumber, readingRefusal}
 use Rattle.readings.specs.Answers.{floatRefusal, floatAnswer}
 use Rattle.readings.specs.declared.FloatSums.{FloatSums}
 use Rattle.readings.proofs.ReadingLaws.{infinite-is-three, not-a-number-is-four, beyond-the-range, whole-in-range, fraction-in-range}
@@ -68,7 +68,7 @@ module _ (xs : List Float) where
       (far : (i : ℕ) → First (length xs) (NoSample xs) i → TooFar (getD xs i nan) → Row 3 i)
       (uneven : (i : ℕ) → First (length xs) (NoSample xs) i → NotWhole (getD xs i nan) → Row 4 i) where
     readings-decided : Decided Row (readingRefusal xs)
-    unfolding readingRefusal firstBad
+    unfolding readingRefusal
     readings-decided = by-test (ltb place (length xs)) refl
       where
         place : ℕ

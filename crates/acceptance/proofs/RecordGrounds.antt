@@ -2,7 +2,7 @@
 use mathlib.Core.Path.{_≡_, refl, sym, ap, subst, _∙_}
 use mathlib.Core.Bool.{Bool, true, false, _&&_, true≢false}
 use mathlib.Core.List.{List}
-use mathlib.Core.Logic.{_⊎_, inl, inr}
+use mathlib.Core.Logic.{inl, inr}
 use Prim.Native.Nat.{ℕ, _+_, _*_, _^_, _<_}
 use native.Mathlib.Nat.{add-zero}
 use native.Mathlib.Omega.{arith}
@@ -11,7 +11,7 @@ use lib.Dec.{leb, ltb}
 use lib.IntN.{ℤ, pos, natAbs}
 use lib.ListN.{length, getD}
 use Rattle.laws.specs.Lists.{at, firstFailing}
-use Rattle.laws.proofs.Tests.{first-true, second-true, one-fails}
+use Rattle.laws.proofs.Tests.{first-true, second-true, either-fails, never-false}
 use Rattle.laws.proofs.ListLaws.{fails-there, passes-before, first-failing-is}
 use Rattle.record.specs.Refusals.{none, inRange, rangeRefusal, sizeRefusal, recordRefusal}
 use Rattle.record.specs.declared.Demand.{Demand}
@@ -26,16 +26,12 @@ use Rattle.acceptance.proofs.Grounding.{Decided, Stands, Agrees, decide
 
 -- ---- the first that is bad: the first entry of a list that fails a test
 
-not-failing : (t : Bool) → (t ≡ false → ⊥) → t ≡ true
-not-failing true other = refl
-not-failing false other = absurd (other refl)
-
 module _ {A : Type 0} (test : A → Bool) (z : A) (xs : List A) {n : ℕ} (whole : length xs ≡ n) {Bad : ℕ → Type 0}
     (bad : (k : ℕ) → k < n → test (getD xs k z) ≡ false → Bad k) (fails : (k : ℕ) → k < n → Bad k → test (getD xs k z) ≡ false) where
   pub first-is : {i : ℕ} → First n Bad i → firstFailing test xs ≡ i
   first-is {i} first =
       first-failing-is test z xs i (omega (arith, first .inside, whole))
-      (λ k h. not-failing _ (λ e. first .before k h (bad k (omega (arith, first .inside)) e)))
+      (λ k h. never-false _ (λ e. first .before k h (bad k (omega (arith, first .inside)) e)))
       (fails i (first .inside) (first .bad))
 
   pub first-there : ltb (firstFailing test xs) n ≡ true → First n Bad (firstFailing test xs)
@@ -53,11 +49,7 @@ module _ (low high n : ℕ) where
   test-between t = (leb-true low n (first-true _ _ t), leb-true n high (second-true (leb low n) _ t))
 
   pub test-outside : (leb low n && leb n high) ≡ false → Outside low high n
-  test-outside t = by-part (one-fails (leb low n) (leb n high) t)
-    where
-      by-part : (leb low n ≡ false) ⊎ (leb n high ≡ false) → Outside low high n
-      by-part (inl e) = inl (leb-false low n e)
-      by-part (inr e) = inr (leb-false n high e)
+  test-outside = either-fails _ _ (λ e. inl (leb-false low n e)) (λ e. inr (leb-false n high e))
 
 -- ---- 5, 2, 1
 

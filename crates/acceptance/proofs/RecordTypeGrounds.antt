@@ -16,8 +16,8 @@ use Rattle.sums.specs.Answers.{modifiedDemand}
 use Rattle.variances.specs.Deviations.{within}
 use Rattle.variances.proofs.DeviationLaws.{deviation-is-greatest}
 use Rattle.variances.proofs.Bounds.{modified-allowed, time-denominator-above-nought, time-deviation-within}
-use Rattle.noise.specs.Noise.{noiseRefusal, noiseDemand, timeDeviation}
-use Rattle.noise.proofs.NoiseLaws.{sound-at-factor, sound-at-double}
+use Rattle.noise.specs.Noise.{noiseRefusal, timeDeviation}
+use Rattle.noise.proofs.NoiseLaws.{noiseDemand, sound-at-factor, sound-at-double}
 use Rattle.acceptance.specs.Grounds
 use Rattle.acceptance.specs.Grounds.{OfRecord, OfRecordType}
 use Rattle.acceptance.proofs.Grounding.{Decided, Stands, Agrees, decide-last, decide-after, decided-by, stands-first, stands-later, rowless-none, none-rowless}

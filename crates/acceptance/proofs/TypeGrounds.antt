@@ -7,7 +7,7 @@ use native.Mathlib.Omega.{arith}
 use borrow.Author.Tests.{ltb-true, ltb-false, leb-true, leb-false, lt-leb, not-false, not-true, eqb-true, eqb-false}
 use lib.Dec.{leb}
 use lib.IntN.{ℤ, pos, negsuc, natAbs}
-use Rattle.laws.proofs.Tests.{second-true, second-fails}
+use Rattle.laws.proofs.Tests.{either-fails, second-true, second-fails}
 use Rattle.record.specs.Refusals.{refused}
 use Rattle.record.specs.declared.Refusal.{Refusal}
 use Rattle.plot.specs.Drawn.{drawnRefusal, drawnAnswer}
@@ -28,19 +28,6 @@ use Rattle.acceptance.proofs.Grounding.{Decided, Stands, Agrees, someth
 use Rattle.acceptance.proofs.RecordGrounds.{test-outside}
 
 -- ---- tests
-
-pub never-true : (t : Bool) → (t ≡ true → ⊥) → t ≡ false
-never-true true never = absurd (never refl)
-never-true false never = refl
-
-pub never-false : (t : Bool) → (t ≡ false → ⊥) → t ≡ true
-never-false true never = refl
-never-false false never = absurd (never refl)
-
--- of two tests one fails: what follows of either
-pub either-fails : (s t : Bool) {A : Type 0} → (s ≡ false → A) → (t ≡ false → A) → (s && t) ≡ false → A
-either-fails true t one other e = other e
-either-fails false t one other e = one e
 
 pub outside-fails : (low high n : ℕ) → Outside low high n → (leb low n && leb n high) ≡ false
 outside-fails low high n (inl below) = rw (lt-leb low n below)

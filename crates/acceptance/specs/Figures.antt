@@ -6,9 +6,10 @@ use Prim.Native.Nat.{ℕ, _-_, _^_}
 use lib.IntN.{ℤ, pos, negsuc}
 use lib.ListN.{length}
 use Rattle.laws.specs.Lists.{tabulate}
-use Rattle.record.specs.declared.CountAnswer.{CountAnswer}
-use Rattle.frequency.specs.Frequency.{phaseAnswer, phaseBuffer}
-use Rattle.drift.specs.Drift.{driftAnswer, removalAnswer, removalBuffer}
+use Rattle.record.specs.Answers.{countAnswer, bufferLeft}
+use Rattle.record.specs.declared.Refusal.{Refusal}
+use Rattle.frequency.specs.Frequency.{phases, phaseRefusal}
+use Rattle.drift.specs.Drift.{driftAnswer, withoutDrift, removalRefusal}
 use Rattle.sums.specs.Answers.{allanSumAnswer, modifiedSumAnswer}
 use Rattle.sums.specs.declared.SumAnswer.{SumAnswer}
 use Rattle.variances.specs.Answers.{allanFractionAnswer, timeFractionAnswer, allanDeviationAnswer}
@@ -17,7 +18,8 @@ use Rattle.plot.specs.Drawn.{drawnNumber}
 use Rattle.noise.specs.Noise.{alphaOf, typeAnswer}
 use Rattle.noise.specs.Bars.{barsAnswer}
 use Rattle.noise.specs.declared.Noise.the-variants.{FlickerFrequency}
-use Rattle.phr.specs.Writing.{writeAnswer, writeBuffer}
+use Rattle.phr.specs.File.{fileOf}
+use Rattle.phr.specs.Writing.{writeRefusal}
 
 -- ---- answers
 
@@ -28,8 +30,9 @@ sumIs total count = record { number = 0; place = 0; sum = record { hi = 0; lo = 
 abbrev pub fractionIs : ℕ → ℕ → FractionAnswer
 fractionIs above below = record { number = 0; place = 0; numerator = record { hi = 0; lo = above }; denominator = below }
 
-abbrev pub countIs : ℕ → CountAnswer
-countIs count = record { number = 0; place = 0; count = count }
+-- a call that is not refused writes n entries, so that the buffer is left like this
+abbrev pub Fills : {A : Type 0} → Refusal → ℕ → List A → List A → List A → Type 0
+Fills r n out buffer left = (countAnswer r n ≡ record { number = 0; place = 0; count = n }) × (bufferLeft r out buffer ≡ left)
 
 -- at factor m the record has the Allan sum A with count K, and the variance above / below
 abbrev pub Allan : ℕ → List ℤ → ℕ → ℕ → ℕ → ℕ → Type 0
@@ -42,7 +45,7 @@ Modified m xs B C above below = (modifiedSumAnswer m xs ≡ sumIs B C) × (timeF
 -- the drift figure is P over R, and removal leaves this
 abbrev pub Drift : List ℤ → ℤ → ℕ → List ℤ → Type 0
 Drift xs P R left =
-    (driftAnswer xs ≡ record { number = 0; place = 0; p = P; r = R }) × (removalAnswer xs (length xs) ≡ countIs (length xs)) × (removalBuffer xs xs ≡ left)
+    (driftAnswer xs ≡ record { number = 0; place = 0; p = P; r = R }) × Fills (removalRefusal xs (length xs)) (length xs) (withoutDrift xs) xs left
 
 -- alpha of the type of two deviations
 abbrev pub Typed : ℕ → ℕ → ℤ → Type 0
@@ -73,8 +76,7 @@ pub record Starred : Type 0 where
   pub spike-modified : Modified 2 spike 8 2 1 6
   pub ends : allanSumAnswer 1 (pos (2 ^ 40) ∷ negsuc (2 ^ 40 - 1) ∷ pos (2 ^ 40) ∷ [])
       ≡ record { number = 0; place = 0; sum = record { hi = 2 ^ 20; lo = 0 }; count = 1 }
-  pub phase-count : phaseAnswer (pos 3 ∷ negsuc 0 ∷ pos 4 ∷ []) 4 ≡ countIs 4
-  pub phases : phaseBuffer (pos 3 ∷ negsuc 0 ∷ pos 4 ∷ []) byTurns ≡ pos 0 ∷ pos 3 ∷ pos 2 ∷ pos 6 ∷ pos 0 ∷ []
+  pub phased : let ys : List ℤ = pos 3 ∷ negsuc 0 ∷ pos 4 ∷ [] in Fills (phaseRefusal ys 5) 4 (phases ys) byTurns (pos 0 ∷ pos 3 ∷ pos 2 ∷ pos 6 ∷ pos 0 ∷ [])
   pub squares-drift : Drift squares (pos 8) 4 (pos 0 ∷ pos 1 ∷ pos 2 ∷ pos 3 ∷ pos 4 ∷ pos 5 ∷ [])
   pub falling-drift : Drift (pos 0 ∷ pos 0 ∷ pos 0 ∷ negsuc 0 ∷ []) (negsuc 0) 2 (pos 0 ∷ pos 0 ∷ pos 1 ∷ pos 1 ∷ [])
   -- h = 77,000
@@ -84,8 +86,7 @@ pub record Starred : Type 0 where
   pub at-the-bound : Typed 4096 3444 (pos 2)
   pub past-the-bound : Typed 4096 3445 (pos 1)
   -- the whole file of phase samples 1, -1
-  pub file-length : writeAnswer 0 (pos 1 ∷ negsuc 0 ∷ []) 24 ≡ countIs 24
-  pub file : writeBuffer 0 (pos 1 ∷ negsuc 0 ∷ []) (tabulate 24 (λ k. 0))
-      ≡ 0x50 ∷ 0x48 ∷ 0x52 ∷ 0x01 ∷ 0x00 ∷ 0x00 ∷ 0x02 ∷ 0x00
+  pub file : let xs : List ℤ = pos 1 ∷ negsuc 0 ∷ [] in Fills (writeRefusal 0 xs 24) 24 (fileOf 0 xs) (tabulate 24 (λ k. 0))
+      (0x50 ∷ 0x48 ∷ 0x52 ∷ 0x01 ∷ 0x00 ∷ 0x00 ∷ 0x02 ∷ 0x00
       ∷ 0x01 ∷ 0x00 ∷ 0x00 ∷ 0x00 ∷ 0x00 ∷ 0x00 ∷ 0x00 ∷ 0x00
-      ∷ 0xFF ∷ 0xFF ∷ 0xFF ∷ 0xFF ∷ 0xFF ∷ 0xFF ∷ 0xFF ∷ 0xFF ∷ []
+      ∷ 0xFF ∷ 0xFF ∷ 0xFF ∷ 0xFF ∷ 0xFF ∷ 0xFF ∷ 0xFF ∷ 0xFF ∷ [])

@@ -7,9 +7,7 @@ use lib.IntN.{ℤ, pos, negsuc, _-ℤ_, _*ℤ_}
 use lib.ListN.{length}
 use Rattle.laws.specs.Lists.{at, tabulate, firstFailing}
 use Rattle.record.specs.Refusals.{refusedIf, _then_, inRange, rangeRefusal}
-use Rattle.record.specs.Answers.{countAnswer, bufferLeft}
 use Rattle.record.specs.declared.Refusal.{Refusal}
-use Rattle.record.specs.declared.CountAnswer.{CountAnswer}
 use Rattle.drift.specs.declared.DriftAnswer.{DriftAnswer}
 
 -- P = (x_(N-1) - x_(N-2)) - (x_1 - x_0)
@@ -22,16 +20,12 @@ driftR xs = length xs - 2
 
 -- 2 over 32,768 samples; 1 under 3; 3 at the lowest index
 unfoldable pub driftRefusal : List ℤ → Refusal
-driftRefusal xs =
-    refusedIf (ltb 32768 (length xs)) 2 0
-    then refusedIf (ltb (length xs) 3) 1 0
-    then rangeRefusal xs
+driftRefusal xs = refusedIf (ltb 32768 (length xs)) 2 0 then refusedIf (ltb (length xs) 3) 1 0 then rangeRefusal xs
 
 -- P and R, or the refusal and noughts
 unfoldable pub driftAnswer : List ℤ → DriftAnswer
 driftAnswer xs =
-    cond (eqb (driftRefusal xs .number) 0)
-    (record { number = 0; place = 0; p = driftP xs; r = driftR xs })
+    cond (eqb (driftRefusal xs .number) 0) (record { number = 0; place = 0; p = driftP xs; r = driftR xs })
     (record { number = driftRefusal xs .number; place = driftRefusal xs .place; p = pos 0; r = 0 })
 
 -- z / d, floored toward minus infinity
@@ -51,10 +45,3 @@ removalRefusal xs room =
     then refusedIf (ltb room (length xs)) 6 0
     then rangeRefusal xs
     then refusedIf (ltb (firstFailing inRange (withoutDrift xs)) (length xs)) 3 (firstFailing inRange (withoutDrift xs))
-
--- N, and the results in the buffer
-abbrev pub removalAnswer : List ℤ → ℕ → CountAnswer
-removalAnswer xs room = countAnswer (removalRefusal xs room) (length xs)
-
-abbrev pub removalBuffer : List ℤ → List ℤ → List ℤ
-removalBuffer xs buffer = bufferLeft (removalRefusal xs (length buffer)) (withoutDrift xs) buffer

@@ -8,7 +8,8 @@ ghost use lib.IntN.{pos, _+ℤ_, _*ℤ_};
 ghost use lib.ListN.{length};
 ghost use Rattle.laws.specs.Lists.{at, written, firstFailing};
 ghost use Rattle.record.specs.Refusals.{none, inRange};
-ghost use Rattle.drift.specs.Drift.{driftP, driftR, driftRefusal, driftAnswer, withoutDrift, removalAnswer, removalBuffer};
+ghost use Rattle.record.specs.Answers.{countAnswer, bufferLeft};
+ghost use Rattle.drift.specs.Drift.{driftP, driftR, driftRefusal, driftAnswer, withoutDrift, removalRefusal};
 
 // The fewest samples that have a drift.
 pub const FEWEST_SAMPLES: usize = 3;
@@ -46,7 +47,8 @@ pub fn drift_figure(samples: &[i64]) -> DriftAnswer
 
 // Each sample less floor(P i (i-1) / (2R)). Refuses 2, 1, 6, then 3 at the first sample and then at the first result outside the sample range.
 pub fn remove_drift(samples: &[i64], buffer: &mut [i64]) -> CountAnswer
-    ensures { λ r. ⌜ (r ≡ removalAnswer (now (samples .entry)) (length (now (buffer .entry)))) × (now (buffer .exit) ≡ removalBuffer (now (samples .entry)) (now (buffer .entry))) ⌝ }
+    ensures { λ r. ⌜ r ≡ countAnswer (removalRefusal (now (samples .entry)) (length (now (buffer .entry)))) (length (now (samples .entry))) ⌝ }
+    ensures { λ r. ⌜ now (buffer .exit) ≡ bufferLeft (removalRefusal (now (samples .entry)) (length (now (buffer .entry)))) (withoutDrift (now (samples .entry))) (now (buffer .entry)) ⌝ }
 {
     let count = samples.len();
     if record::MOST_SAMPLES < count as u64 {

@@ -30,7 +30,7 @@ const ROWS: [[u64; 3]; 20] = [
     [18446744073709551615, 0, 32768],
 ];
 
-pub fn figures() {
+pub(crate) fn figures() {
     let mut i: usize = 0;
     while i < 20 {
         line(ROWS[i]);

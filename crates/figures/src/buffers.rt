@@ -57,7 +57,7 @@ const SIZES: [[usize; 3]; 17] = [
     [2, 32769, 0],
 ];
 
-pub fn figures() {
+pub(crate) fn figures() {
     rows();
     sizes();
     of_rule(b"ends", records::ENDS);

@@ -37,7 +37,7 @@ const ROWS: [[u64; 4]; 24] = [
     [4611686018427387903, 18446744073709551615, 10922, 32768],
 ];
 
-pub fn figures() {
+pub(crate) fn figures() {
     let mut i: usize = 0;
     while i < 24 {
         lines(ROWS[i]);

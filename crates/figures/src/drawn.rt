@@ -35,7 +35,7 @@ const ROWS: [u64; 27] = [
     18446744073709551615,
 ];
 
-pub fn figures() {
+pub(crate) fn figures() {
     let mut i: usize = 0;
     while i < 27 {
         line(ROWS[i]);

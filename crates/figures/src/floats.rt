@@ -26,7 +26,7 @@ const SIZES: [[usize; 3]; 14] = [
     [0, 9, 0],
 ];
 
-pub fn figures() {
+pub(crate) fn figures() {
     ends_of_the_range();
     fractions();
     not_finite();

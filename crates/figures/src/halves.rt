@@ -6,7 +6,7 @@ use wide::Wide;
 // The largest word.
 const MOST: u64 = 18446744073709551615;
 
-pub fn figures() {
+pub(crate) fn figures() {
     products_and_sums();
     quotients();
     roots();

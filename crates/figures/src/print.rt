@@ -4,17 +4,17 @@ use sums::Part;
 use wide::Wide;
 
 // Bytes as they stand.
-pub fn text(bytes: &[u8]) {
+pub(crate) fn text(bytes: &[u8]) {
     io::write_all(STDOUT_FILENO, bytes);
 }
 
 // A number in decimal digits.
-pub fn number(n: u64) {
+pub(crate) fn number(n: u64) {
     io::print_decimal(STDOUT_FILENO, n);
 }
 
 // A signed number in decimal digits.
-pub fn signed(n: i64) {
+pub(crate) fn signed(n: i64) {
     if n < 0 {
         text(b"-");
     }
@@ -22,7 +22,7 @@ pub fn signed(n: i64) {
 }
 
 // Signed numbers, each after a space.
-pub fn values(row: &[i64]) {
+pub(crate) fn values(row: &[i64]) {
     let mut i: usize = 0;
     while i < row.len() {
         text(b" ");
@@ -32,7 +32,7 @@ pub fn values(row: &[i64]) {
 }
 
 // A double, exactly: its 64 bits in 16 hexadecimal digits. What is not a number has many patterns, and is called so.
-pub fn double(x: f64) {
+pub(crate) fn double(x: f64) {
     if x != x {
         text(b"not a number");
         return;
@@ -41,7 +41,7 @@ pub fn double(x: f64) {
 }
 
 // A refusal's number and place.
-pub fn refusal(by: u64, place: u64) {
+pub(crate) fn refusal(by: u64, place: u64) {
     text(b"refused ");
     number(by);
     text(b" at ");
@@ -49,21 +49,21 @@ pub fn refusal(by: u64, place: u64) {
 }
 
 // The halves of a wide number.
-pub fn halves(n: Wide) {
+pub(crate) fn halves(n: Wide) {
     number(n.hi);
     text(b":");
     number(n.lo);
 }
 
 // A sum's halves and its count.
-pub fn sum(total: Wide, count: u64) {
+pub(crate) fn sum(total: Wide, count: u64) {
     halves(total);
     text(b" of ");
     number(count);
 }
 
 // A part of an answer: a sum with its count, or its own refusal.
-pub fn part(part: Part) {
+pub(crate) fn part(part: Part) {
     if part.number != 0 {
         text(b" refused ");
         number(part.number);

@@ -12,7 +12,7 @@ pub const SCATTERED: u8 = 3;
 pub const LINE: u8 = 4;
 
 // Fills a record by a rule.
-pub fn fill(samples: &mut [i64; 32768], rule: u8) {
+pub(crate) fn fill(samples: &mut [i64; 32768], rule: u8) {
     let mut state: u64 = 1;
     let mut i: usize = 0;
     while i < 32768 {

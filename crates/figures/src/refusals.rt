@@ -5,7 +5,7 @@ use crate::print::text;
 use record::Demand;
 use record::Refusal;
 
-pub fn figures() {
+pub(crate) fn figures() {
     ends_of_the_range();
     fewest_for_allan();
     fewest_for_modified();

@@ -8,7 +8,7 @@ use sums::Part;
 use sums::SumAnswer;
 use wide::Wide;
 
-pub fn figures() {
+pub(crate) fn figures() {
     of_rule(b"ends", records::ENDS);
     of_rule(b"blocks", records::BLOCKS);
     of_rule(b"scattered", records::SCATTERED);

@@ -9,7 +9,7 @@ use sums::SumAnswer;
 use variances::DeviationAnswer;
 use variances::FractionAnswer;
 
-pub fn figures() {
+pub(crate) fn figures() {
     of_rule(b"ends", records::ENDS);
     of_rule(b"blocks", records::BLOCKS);
     of_rule(b"squares", records::SQUARES);

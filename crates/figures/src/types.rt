@@ -61,7 +61,7 @@ const SIZES: [[usize; 2]; 17] = [
     [5462, 32768],
 ];
 
-pub fn figures() {
+pub(crate) fn figures() {
     pairs();
     of_rule(b"ends", records::ENDS);
     of_rule(b"blocks", records::BLOCKS);

@@ -6,7 +6,7 @@ use mathlib.Core.List.{List}
 use Prim.Native.Nat.{ℕ, zero, suc, _+_, _-_, _^_, _≤_, _<_}
 use native.Mathlib.Omega.{arith}
 use borrow.Author.Tests.{lt-leb, lt-ltb, le-ltb, eq-eqb, ne-eqb}
-use lib.IntN.{ℤ, pos, negsuc, natAbs, _+ℤ_, _-ℤ_, +ℤ-idl}
+use lib.IntN.{ℤ, pos, negsuc, natAbs, _+ℤ_, _-ℤ_}
 use lib.ListN.{length, drop, set, length-drop, length-set}
 use lib.Seq.{getD-drop}
 use lib.Signed.{mag, ltZ}
@@ -20,7 +20,7 @@ use Rattle.laws.proofs.Parts.{one-part, +ℤ-parts, size-is, small-fits}
 use Rattle.laws.proofs.Expressions.{Expression, $_, ±_, _∋_, _⊕_, _⊖_}
 use Rattle.laws.proofs.Machine.{Fit, machine, result, machine-is, result-is, argument, LeavesFit, argument-is, lt-taken, lt-left}
 use Rattle.record.specs.Refusals.{none, refused, inRange, rangeRefusal}
-use Rattle.frequency.specs.Frequency.{phases, phasesFrom, firstLeaving, phaseRefusal, differences, frequencyRefusal}
+use Rattle.frequency.specs.Frequency.{phases, firstLeaving, phaseRefusal, differences, frequencyRefusal}
 use Rattle.record.proofs.RangeLaws.{sample-bounded}
 use Rattle.record.proofs.RefusalLaws.{range-bounded}
 
@@ -57,12 +57,12 @@ later ys = drop 1 (phases ys)
 
 module _ (ys : List ℤ) where
   pub phases-length : length (phases ys) ≡ length ys + 1
-  unfolding phases phasesFrom
+  unfolding phases
   phases-length = tabulate-length _ _
 
   pub phase-is : (i : ℕ) → i ≤ length ys → at (phases ys) i ≡ running ys i
-  unfolding phases phasesFrom
-  phase-is i h = tabulate-entry (length ys + 1) (λ k. pos 0 +ℤ running ys k) (pos 0) i (omega arith) ∙ +ℤ-idl (running ys i)
+  unfolding phases
+  phase-is i h = tabulate-entry (length ys + 1) (running ys) (pos 0) i (omega arith)
 
   pub later-length : length (later ys) ≡ length ys
   later-length = omega (arith, length-drop 1 (phases ys), phases-length)

@@ -4,7 +4,7 @@ use mathlib.Core.Bool.{true, false}
 use mathlib.Core.List.{List}
 use Prim.Native.Nat.{ℕ, _+_, _-_, _≤_, _<_}
 use native.Mathlib.Omega.{arith}
-use lib.IntN.{ℤ, pos, _+ℤ_, _-ℤ_, +ℤ-idl}
+use lib.IntN.{ℤ, pos, _-ℤ_}
 use lib.ListN.{length, drop, length-drop}
 use lib.Seq.{getD-drop}
 use Rattle.laws.specs.Lists.{at, tabulate, firstFailing}
@@ -12,7 +12,7 @@ use Rattle.laws.proofs.ListLaws.{tabulate-length, tabulate-entry, tabulate-equa
 use Rattle.laws.proofs.SumLaws.{sumℤ-step, sumℤ-equal, sumℤ-telescopes}
 use Rattle.laws.proofs.Expressions.{$_, _⊕_, _⊖_, equation}
 use Rattle.record.specs.Refusals.{none, refused, inRange}
-use Rattle.frequency.specs.Frequency.{phases, phasesFrom, firstLeaving, phaseRefusal, differences, frequencyRefusal}
+use Rattle.frequency.specs.Frequency.{phases, firstLeaving, phaseRefusal, differences, frequencyRefusal}
 use Rattle.record.proofs.RangeLaws.{bounded-sample}
 use Rattle.record.proofs.RefusalLaws.{all-in-range}
 use Rattle.frequency.proofs.FrequencyLaws.{running, phases-length, phase-is, differences-length, difference-is, phase-in-range, reading-leaves, phases-unrefused, range-decides}
@@ -32,11 +32,10 @@ module _ (xs : List ℤ) (some : 0 < length xs) where
       sumℤ-equal i (at (differences xs)) (λ k. at xs (k + 1) -ℤ at xs k) (λ k below. difference-is xs k (omega arith)) ∙ sumℤ-telescopes i (at xs)
 
   pub phases-of-differences : phases (differences xs) ≡ offsets xs
-  unfolding phases phasesFrom
+  unfolding phases
   phases-of-differences =
-      let phase : ℕ → ℤ = λ i. pos 0 +ℤ running (differences xs) i in
-      ap (λ (n : ℕ). tabulate n phase) count-is
-      ∙ tabulate-equal (length xs) phase (λ i. at xs i -ℤ at xs 0) (λ i h. +ℤ-idl _ ∙ offset-is i h)
+      ap (λ (n : ℕ). tabulate n (running (differences xs))) count-is
+      ∙ tabulate-equal (length xs) (running (differences xs)) (λ i. at xs i -ℤ at xs 0) offset-is
 
   -- the differences are refused exactly at the first i whose x_(i+1) - x_0 leaves the range
   pub leaving-of-differences : firstLeaving (differences xs) ≡ firstFailing inRange (drop 1 (offsets xs))

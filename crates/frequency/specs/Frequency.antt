@@ -2,22 +2,16 @@
 use mathlib.Core.List.{List}
 use Prim.Native.Nat.{ℕ, _+_, _-_}
 use lib.Dec.{ltb, eqb}
-use lib.IntN.{ℤ, pos, _+ℤ_, _-ℤ_}
+use lib.IntN.{ℤ, _-ℤ_}
 use lib.ListN.{length, drop}
 use Rattle.laws.specs.Lists.{at, tabulate, firstFailing}
 use Rattle.laws.specs.Sums.{sumℤ}
 use Rattle.record.specs.Refusals.{refusedIf, _then_, inRange, rangeRefusal}
-use Rattle.record.specs.Answers.{countAnswer, bufferLeft}
 use Rattle.record.specs.declared.Refusal.{Refusal}
-use Rattle.record.specs.declared.CountAnswer.{CountAnswer}
 
--- phases start at x and each reading is added: M readings give M+1 phases
-unfoldable pub phasesFrom : ℤ → List ℤ → List ℤ
-phasesFrom x ys = tabulate (length ys + 1) (λ i. x +ℤ sumℤ i (at ys))
-
--- phases start at 0
+-- phases start at 0 and each reading is added: M readings give M+1 phases
 unfoldable pub phases : List ℤ → List ℤ
-phases ys = phasesFrom (pos 0) ys
+phases ys = tabulate (length ys + 1) (λ i. sumℤ i (at ys))
 
 -- the first reading whose running phase leaves the sample range; the number of readings where none does
 unfoldable pub firstLeaving : List ℤ → ℕ
@@ -30,13 +24,6 @@ phaseRefusal ys room =
     then refusedIf (ltb room (length ys + 1)) 6 0
     then refusedIf (ltb (firstLeaving ys) (length ys)) 3 (firstLeaving ys)
 
--- M+1, and the phases in the buffer
-abbrev pub phaseAnswer : List ℤ → ℕ → CountAnswer
-phaseAnswer ys room = countAnswer (phaseRefusal ys room) (length ys + 1)
-
-abbrev pub phaseBuffer : List ℤ → List ℤ → List ℤ
-phaseBuffer ys buffer = bufferLeft (phaseRefusal ys (length buffer)) (phases ys) buffer
-
 -- N samples give N-1 differences
 unfoldable pub differences : List ℤ → List ℤ
 differences xs = tabulate (length xs - 1) (λ i. at xs (i + 1) -ℤ at xs i)
@@ -48,10 +35,3 @@ frequencyRefusal xs room =
     then refusedIf (eqb (length xs) 0) 1 0
     then refusedIf (ltb room (length xs - 1)) 6 0
     then rangeRefusal xs
-
--- N-1, and the differences in the buffer
-abbrev pub frequencyAnswer : List ℤ → ℕ → CountAnswer
-frequencyAnswer xs room = countAnswer (frequencyRefusal xs room) (length xs - 1)
-
-abbrev pub frequencyBuffer : List ℤ → List ℤ → List ℤ
-frequencyBuffer xs buffer = bufferLeft (frequencyRefusal xs (length buffer)) (differences xs) buffer

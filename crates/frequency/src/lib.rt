@@ -7,12 +7,14 @@ ghost use lib.IntN.{natAbs, _+ℤ_};
 ghost use lib.ListN.{length};
 ghost use Rattle.laws.specs.Lists.{written};
 ghost use Rattle.record.specs.Refusals.{none, inRange, rangeRefusal};
-ghost use Rattle.frequency.specs.Frequency.{phases, firstLeaving, phaseAnswer, phaseBuffer, differences, frequencyAnswer, frequencyBuffer};
+ghost use Rattle.record.specs.Answers.{countAnswer, bufferLeft};
+ghost use Rattle.frequency.specs.Frequency.{phases, firstLeaving, phaseRefusal, differences, frequencyRefusal};
 
 // Phases from readings: M readings give M + 1 phases, the first of them 0. Refuses 2, 6, then 3 at the first reading whose running phase leaves
 // the sample range.
 pub fn phase_from_frequency(readings: &[i64], buffer: &mut [i64]) -> CountAnswer
-    ensures { λ r. ⌜ (r ≡ phaseAnswer (now (readings .entry)) (length (now (buffer .entry)))) × (now (buffer .exit) ≡ phaseBuffer (now (readings .entry)) (now (buffer .entry))) ⌝ }
+    ensures { λ r. ⌜ r ≡ countAnswer (phaseRefusal (now (readings .entry)) (length (now (buffer .entry)))) (length (now (readings .entry)) + 1) ⌝ }
+    ensures { λ r. ⌜ now (buffer .exit) ≡ bufferLeft (phaseRefusal (now (readings .entry)) (length (now (buffer .entry)))) (phases (now (readings .entry))) (now (buffer .entry)) ⌝ }
 {
     let count = readings.len();
     if record::MOST_READINGS < count as u64 {
@@ -35,7 +37,8 @@ pub fn phase_from_frequency(readings: &[i64], buffer: &mut [i64]) -> CountAnswer
 
 // Readings from phases: N samples give N - 1 differences. Refuses 2, 1, 6, then 3 at the lowest index.
 pub fn frequency_from_phase(samples: &[i64], buffer: &mut [i64]) -> CountAnswer
-    ensures { λ r. ⌜ (r ≡ frequencyAnswer (now (samples .entry)) (length (now (buffer .entry)))) × (now (buffer .exit) ≡ frequencyBuffer (now (samples .entry)) (now (buffer .entry))) ⌝ }
+    ensures { λ r. ⌜ r ≡ countAnswer (frequencyRefusal (now (samples .entry)) (length (now (buffer .entry)))) (length (now (samples .entry)) - 1) ⌝ }
+    ensures { λ r. ⌜ now (buffer .exit) ≡ bufferLeft (frequencyRefusal (now (samples .entry)) (length (now (buffer .entry)))) (differences (now (samples .entry))) (now (buffer .entry)) ⌝ }
 {
     let count = samples.len();
     if record::MOST_SAMPLES < count as u64 {

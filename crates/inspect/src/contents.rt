@@ -21,7 +21,7 @@ const SHORT: u64 = 1;
 const LONG: u64 = 2;
 
 // The line of a file.
-pub fn show(path: &[u8], bytes: &[u8]) {
+pub(crate) fn show(path: &[u8], bytes: &[u8]) {
     let mut line = [0u8; ROOM];
     let at = text(&mut line, 0, path);
     let at = text(&mut line, at, b": ");

@@ -3,7 +3,7 @@ use libc::STDERR_FILENO;
 use libc::STDOUT_FILENO;
 
 // Whether a word asks for help.
-pub fn asked(word: &[u8]) -> bool {
+pub(crate) fn asked(word: &[u8]) -> bool {
     if check::same(word, b"-h") {
         return true;
     }
@@ -11,7 +11,7 @@ pub fn asked(word: &[u8]) -> bool {
 }
 
 // To standard error, where no file is named.
-pub fn usage() {
+pub(crate) fn usage() {
     io::write_all(
         STDERR_FILENO,
         b"usage: inspect FILE.. (inspect --help says more)\n",
@@ -19,7 +19,7 @@ pub fn usage() {
 }
 
 // To standard output.
-pub fn help() {
+pub(crate) fn help() {
     io::write_all(
         STDOUT_FILENO,
         b"usage: inspect FILE..

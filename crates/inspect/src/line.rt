@@ -11,7 +11,7 @@ const DIGITS: usize = 39;
 const UNITS: u64 = 1048576;
 
 // One byte.
-pub fn byte(line: &mut [u8; ROOM], at: usize, b: u8) -> usize {
+pub(crate) fn byte(line: &mut [u8; ROOM], at: usize, b: u8) -> usize {
     if at < ROOM {
         line[at] = b;
         return at + 1;
@@ -20,7 +20,7 @@ pub fn byte(line: &mut [u8; ROOM], at: usize, b: u8) -> usize {
 }
 
 // Bytes. A control byte, which a file's name may have, becomes a question mark, so that a line stays one line.
-pub fn text(line: &mut [u8; ROOM], at: usize, bytes: &[u8]) -> usize {
+pub(crate) fn text(line: &mut [u8; ROOM], at: usize, bytes: &[u8]) -> usize {
     let mut end = at;
     let mut i: usize = 0;
     while i < bytes.len() {
@@ -31,19 +31,19 @@ pub fn text(line: &mut [u8; ROOM], at: usize, bytes: &[u8]) -> usize {
 }
 
 // A number in decimal digits.
-pub fn number(line: &mut [u8; ROOM], at: usize, n: u64) -> usize {
+pub(crate) fn number(line: &mut [u8; ROOM], at: usize, n: u64) -> usize {
     whole(line, at, Wide { hi: 0, lo: n }, 1)
 }
 
 // A number of 128 bits in decimal digits, with noughts in front up to so many.
-pub fn whole(line: &mut [u8; ROOM], at: usize, n: Wide, least: usize) -> usize {
+pub(crate) fn whole(line: &mut [u8; ROOM], at: usize, n: Wide, least: usize) -> usize {
     let mut digits = [0u8; DIGITS];
     let first = spelled(&mut digits, n, least);
     from(line, at, &digits, first)
 }
 
 // A deviation in units of 2^-20 as a decimal fraction, cut off after six decimals.
-pub fn millionths(line: &mut [u8; ROOM], at: usize, units: u64) -> usize {
+pub(crate) fn millionths(line: &mut [u8; ROOM], at: usize, units: u64) -> usize {
     let at = number(line, at, units / UNITS);
     let at = byte(line, at, b'.');
     let rest = units % UNITS * 1000000 / UNITS;
@@ -51,7 +51,7 @@ pub fn millionths(line: &mut [u8; ROOM], at: usize, units: u64) -> usize {
 }
 
 // The line so far, in one call, and whether all of it was taken.
-pub fn written(descriptor: i32, line: &[u8; ROOM], end: usize) -> bool {
+pub(crate) fn written(descriptor: i32, line: &[u8; ROOM], end: usize) -> bool {
     let all: &[u8] = line;
     if end <= all.len() {
         return io::write_all(descriptor, &all[0..end]);

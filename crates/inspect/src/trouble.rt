@@ -8,7 +8,7 @@ use crate::words::reason;
 use libc::STDERR_FILENO;
 
 // A file.
-pub fn file(path: &[u8], what: &[u8], error: i32) {
+pub(crate) fn file(path: &[u8], what: &[u8], error: i32) {
     let mut line = [0u8; ROOM];
     let at = text(&mut line, 0, b"inspect: ");
     let at = text(&mut line, at, path);
@@ -17,7 +17,7 @@ pub fn file(path: &[u8], what: &[u8], error: i32) {
 }
 
 // An argument that could not be taken.
-pub fn argument(i: usize, error: i32) {
+pub(crate) fn argument(i: usize, error: i32) {
     let mut line = [0u8; ROOM];
     let at = text(&mut line, 0, b"inspect: argument ");
     let at = number(&mut line, at, i as u64);

@@ -4,7 +4,7 @@ use crate::line::number;
 use crate::line::text;
 
 // A refusal with its place, if it has one: a byte of a file or the index of a value. The place of any other means nothing.
-pub fn refused_at(line: &mut [u8; ROOM], at: usize, by: u64, place: u64) -> usize {
+pub(crate) fn refused_at(line: &mut [u8; ROOM], at: usize, by: u64, place: u64) -> usize {
     let at = refused(line, at, by);
     match by {
         record::BAD_FILE => placed(line, at, b", at byte ", place),
@@ -14,7 +14,7 @@ pub fn refused_at(line: &mut [u8; ROOM], at: usize, by: u64, place: u64) -> usiz
 }
 
 // A refusal's number, and the same in words.
-pub fn refused(line: &mut [u8; ROOM], at: usize, by: u64) -> usize {
+pub(crate) fn refused(line: &mut [u8; ROOM], at: usize, by: u64) -> usize {
     let at = text(line, at, b"refused ");
     let at = number(line, at, by);
     let at = text(line, at, b", ");
@@ -43,7 +43,7 @@ fn placed(line: &mut [u8; ROOM], at: usize, counts: &[u8], place: u64) -> usize 
 }
 
 // An error of the system.
-pub fn reason(line: &mut [u8; ROOM], at: usize, error: i32) -> usize {
+pub(crate) fn reason(line: &mut [u8; ROOM], at: usize, error: i32) -> usize {
     match error {
         libc::ENOENT => text(line, at, b"no such file or directory"),
         libc::EINTR => text(line, at, b"interrupted"),

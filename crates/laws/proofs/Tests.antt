@@ -38,6 +38,16 @@ pub choices-agree : {A : Type 0} (a b : ℕ) {p p′ q q′ : A} → (a ≤ b �
 choices-agree a b at-most above =
     choice-by-order a b (λ h. at-most h ∙ sym (choice-true _ _ (le-leb a b h))) (λ h. above h ∙ sym (choice-false _ _ (lt-leb a b h)))
 
+-- ---- a test that never has one value has the other
+
+pub never-true : (t : Bool) → (t ≡ true → ⊥) → t ≡ false
+never-true true never = absurd (never refl)
+never-true false never = refl
+
+pub never-false : (t : Bool) → (t ≡ false → ⊥) → t ≡ true
+never-false true never = refl
+never-false false never = absurd (never refl)
+
 -- ---- negation: what a test's value makes of it
 
 pub negation-true : {t : Bool} → t ≡ false → not t ≡ true
@@ -66,6 +76,11 @@ second-fails false e = refl
 pub one-fails : (s t : Bool) → (s && t) ≡ false → (s ≡ false) ⊎ (t ≡ false)
 one-fails true t e = inr e
 one-fails false t e = inl refl
+
+-- of two tests one fails: what follows of either
+pub either-fails : (s t : Bool) {A : Type 0} → (s ≡ false → A) → (t ≡ false → A) → (s && t) ≡ false → A
+either-fails true t one other e = other e
+either-fails false t one other e = one e
 
 -- ---- two tests that hold of the same are equal
 

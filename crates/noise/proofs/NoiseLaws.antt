@@ -1,14 +1,14 @@
--- The house rule and the two tables: kappa of a type, the type of a bound, the answers refused and given, and that scaling both deviations leaves
+-- The house rule and the two tables: kappa of a type, the place of a bound, the answers refused and given, and that scaling both deviations leaves
 -- the type as it is.
 use mathlib.Core.Path.{_≡_, refl, sym, ap, _∙_}
 use mathlib.Core.Bool.{Bool, true, false, cond, not}
 use mathlib.Core.List.{List, [], _∷_}
-use Prim.Native.Nat.{ℕ, suc, _+_, _-_, _*_, _^_, _≤_, _<_}
+use Prim.Native.Nat.{ℕ, zero, suc, _+_, _*_, _^_, _≤_, _<_}
 use native.Mathlib.Nat.{mul-assoc, mul-left-comm, mul-le-mul-left, le-of-mul-le-mul-left}
 use native.Mathlib.Omega.{arith}
 use borrow.Author.Tests.{eq-eqb, ne-eqb, le-leb, lt-leb, leb-true}
 use lib.Dec.{leb}
-use lib.IntN.{ℤ}
+use lib.IntN.{ℤ, pos, natAbs, _-ℤ_}
 use lib.ListN.{getD, drop}
 use Rattle.laws.specs.Lists.{firstFailing}
 use Rattle.laws.proofs.ListLaws.{search-goes-on, search-ends-here, search-ends}
@@ -18,6 +18,7 @@ use Rattle.wide.specs.declared.Wide.{Wide}
 use Rattle.wide.proofs.WideLaws.{value-of-halves, at-most-of-halves}
 use Rattle.record.specs.Refusals.{none, refused, recordRefusal}
 use Rattle.record.specs.declared.Refusal.{Refusal}
+use Rattle.record.specs.declared.Demand.{Demand}
 use Rattle.record.proofs.RefusalLaws.{Sound, sound-none, none-sound, refusal-stands, none-gives-way}
 use Rattle.sums.specs.Published.{modifiedSum, modifiedCount}
 use Rattle.sums.specs.Answers.{modifiedDemand, modifiedSumAnswer}
@@ -27,8 +28,7 @@ use Rattle.variances.specs.declared.DeviationAnswer.{DeviationAnswer}
 use Rattle.sums.proofs.AnswerLaws.{modified-sum-given}
 use Rattle.variances.proofs.AnswerLaws.{time-deviation-given}
 use Rattle.variances.proofs.Bounds.{modified-allowed, time-deviation-within}
-use Rattle.noise.specs.Noise.{kappaOf, noiseOf, noiseRefusal, noiseAnswer, typeAnswer, noiseDemand, timeDeviation, recordTypeAnswer}
-use Rattle.noise.specs.NoiseOrder.{typeAt, indexOf, bounds, boundAt}
+use Rattle.noise.specs.Noise.{alphaOf, kappaOf, noiseOf, noiseRefusal, noiseAnswer, typeAnswer, timeDeviation, recordTypeAnswer}
 use Rattle.noise.specs.declared.Noise.{Noise}
 use Rattle.noise.specs.declared.Noise.the-variants.{WhitePhase, FlickerPhase, WhiteFrequency, FlickerFrequency, RandomWalkFrequency}
 use Rattle.noise.specs.declared.NoiseAnswer.{NoiseAnswer}
@@ -36,25 +36,40 @@ use Rattle.noise.proofs.Tables.{value-at}
 
 -- ---- the types in their order
 
-pub type-of-index : (t : Noise) → typeAt (indexOf t) ≡ t
-unfolding typeAt indexOf
+-- the place of a type in the table, whose alpha falls from 2 by one a row
+abbrev pub indexOf : Noise → ℕ
+indexOf t = natAbs (pos 2 -ℤ alphaOf t)
+
+-- the type at a place
+unfoldable typeAt : ℕ → Noise
+typeAt zero = WhitePhase
+typeAt (suc zero) = FlickerPhase
+typeAt (suc (suc zero)) = WhiteFrequency
+typeAt (suc (suc (suc zero))) = FlickerFrequency
+typeAt (suc (suc (suc (suc i)))) = RandomWalkFrequency
+
+type-of-index : (t : Noise) → typeAt (indexOf t) ≡ t
+unfolding typeAt alphaOf
 type-of-index WhitePhase = refl
 type-of-index FlickerPhase = refl
 type-of-index WhiteFrequency = refl
 type-of-index FlickerFrequency = refl
 type-of-index RandomWalkFrequency = refl
 
+-- each place has one type
+pub one-type : {t t′ : Noise} {i : ℕ} → i ≡ indexOf t → i ≡ indexOf t′ → t ≡ t′
+one-type {t} {t′} first second = sym (type-of-index t) ∙ ap typeAt (sym first ∙ second) ∙ type-of-index t′
+
 pub index-within : (t : Noise) → indexOf t < 5
-unfolding indexOf
+unfolding alphaOf
 index-within WhitePhase = omega arith
 index-within FlickerPhase = omega arith
 index-within WhiteFrequency = omega arith
 index-within FlickerFrequency = omega arith
 index-within RandomWalkFrequency = omega arith
 
-pub last-type : (i : ℕ) → 4 ≤ i → typeAt i ≡ RandomWalkFrequency
-unfolding typeAt
-last-type i above = let more : i ≡ suc (suc (suc (suc (i - 4)))) = omega arith in ap typeAt more
+pub place-within : (t : Noise) {i : ℕ} → i ≡ indexOf t → i ≤ 4
+place-within t is = omega (arith, index-within t)
 
 -- ---- the table of kappa
 
@@ -67,12 +82,8 @@ kappa-at t {i} is = value-at (λ place. kappaOf (typeAt place)) kappas tt i (ome
 
 -- ---- the table of bounds
 
-abbrev pub boundsTable : List ℕ
-boundsTable = 3444 ∷ 4871 ∷ 6889 ∷ 9742 ∷ []
-
-pub bound-at : (i : ℕ) → i < 4 → getD boundsTable i 0 ≡ getD bounds i 0
-unfolding bounds
-bound-at i inside = value-at (λ place. getD bounds place 0) boundsTable tt i inside
+abbrev pub bounds : List ℕ
+bounds = 3444 ∷ 4871 ∷ 6889 ∷ 9742 ∷ []
 
 -- 4096 r2 is above r1 times a bound
 abbrev pub above : ℕ → ℕ → ℕ → Bool
@@ -80,46 +91,42 @@ above r1 r2 bound = not (leb (4096 * r2) (r1 * bound))
 
 -- the search for the first bound, at place i
 abbrev pub SearchAt : ℕ → ℕ → ℕ → Type 0
-SearchAt r1 r2 i = boundAt r1 r2 ≡ i + firstFailing (above r1 r2) (drop i bounds)
+SearchAt r1 r2 i = firstFailing (above r1 r2) bounds ≡ i + firstFailing (above r1 r2) (drop i bounds)
 
 module _ (r1 r2 : ℕ) where
-  pub search-starts : SearchAt r1 r2 0
-  unfolding boundAt
-  search-starts = omega arith
-
-  -- the test of the halves at place i is the test of the bound there
-  module _ {ratio reach : Wide} {answer : Bool} (i : ℕ) (inside : i < 4) (ratio-is : ratio ≡ halves (4096 * r2)) (reach-is : reach ≡ halves (r1 * getD boundsTable i 0))
-      (answer-is : answer ≡ leb (value ratio) (value reach)) where
-    answer-of-bound : answer ≡ leb (4096 * r2) (r1 * getD bounds i 0)
-    answer-of-bound =
-        at-most-of-halves (4096 * r2) (value reach) ratio-is answer-is
-        ∙ ap (λ (limit : ℕ). leb (4096 * r2) limit) (ap value reach-is ∙ value-of-halves (r1 * getD boundsTable i 0) ∙ ap (λ (bound : ℕ). r1 * bound) (bound-at i inside))
-
-    pub bound-found : SearchAt r1 r2 i → answer ≡ true → i ≡ boundAt r1 r2
-    unfolding boundAt bounds
-    bound-found so-far holds = sym (search-ends-here (above r1 r2) 0 bounds i inside so-far (negation-false (sym answer-of-bound ∙ holds)))
-
-    pub bound-passed : SearchAt r1 r2 i → answer ≡ false → SearchAt r1 r2 (i + 1)
-    unfolding boundAt bounds
-    bound-passed so-far fails = search-goes-on (above r1 r2) 0 bounds i inside so-far (negation-true (sym answer-of-bound ∙ fails))
-
-  pub no-bound-found : (i : ℕ) → i ≡ 4 → SearchAt r1 r2 i → i ≡ boundAt r1 r2
-  unfolding boundAt bounds
-  no-bound-found i end so-far = end ∙ sym (search-ends (above r1 r2) bounds i end so-far)
-
-  -- the type of the first bound is the type by the house rule
-  pub type-of-bound : typeAt (boundAt r1 r2) ≡ noiseOf r1 r2
-  unfolding boundAt firstFailing bounds noiseOf typeAt
-  type-of-bound = by-tests (leb (4096 * r2) (r1 * 3444)) (leb (4096 * r2) (r1 * 4871)) (leb (4096 * r2) (r1 * 6889)) (leb (4096 * r2) (r1 * 9742))
+  -- the place of the first bound is that of the type by the house rule
+  pub first-bound : firstFailing (above r1 r2) bounds ≡ indexOf (noiseOf r1 r2)
+  unfolding firstFailing noiseOf alphaOf
+  first-bound = by-tests (leb (4096 * r2) (r1 * 3444)) (leb (4096 * r2) (r1 * 4871)) (leb (4096 * r2) (r1 * 6889)) (leb (4096 * r2) (r1 * 9742))
     where
       by-tests : (a b c d : Bool) →
-          typeAt (cond (not a) (suc (cond (not b) (suc (cond (not c) (suc (cond (not d) (suc 0) 0)) 0)) 0)) 0)
-          ≡ cond a WhitePhase (cond b FlickerPhase (cond c WhiteFrequency (cond d FlickerFrequency RandomWalkFrequency)))
+          cond (not a) (suc (cond (not b) (suc (cond (not c) (suc (cond (not d) (suc 0) 0)) 0)) 0)) 0
+          ≡ indexOf (cond a WhitePhase (cond b FlickerPhase (cond c WhiteFrequency (cond d FlickerFrequency RandomWalkFrequency))))
       by-tests true b c d = refl
       by-tests false true c d = refl
       by-tests false false true d = refl
       by-tests false false false true = refl
       by-tests false false false false = refl
+
+  pub search-starts : SearchAt r1 r2 0
+  search-starts = omega arith
+
+  -- the test of the halves at place i is the test of the bound there
+  module _ {ratio reach : Wide} {answer : Bool} (i : ℕ) (inside : i < 4) (ratio-is : ratio ≡ halves (4096 * r2)) (reach-is : reach ≡ halves (r1 * getD bounds i 0))
+      (answer-is : answer ≡ leb (value ratio) (value reach)) where
+    answer-of-bound : answer ≡ leb (4096 * r2) (r1 * getD bounds i 0)
+    answer-of-bound =
+        at-most-of-halves (4096 * r2) (value reach) ratio-is answer-is
+        ∙ ap (λ (limit : ℕ). leb (4096 * r2) limit) (ap value reach-is ∙ value-of-halves (r1 * getD bounds i 0))
+
+    pub bound-found : SearchAt r1 r2 i → answer ≡ true → i ≡ indexOf (noiseOf r1 r2)
+    bound-found so-far holds = sym (search-ends-here (above r1 r2) 0 bounds i inside so-far (negation-false (sym answer-of-bound ∙ holds))) ∙ first-bound
+
+    pub bound-passed : SearchAt r1 r2 i → answer ≡ false → SearchAt r1 r2 (i + 1)
+    bound-passed so-far fails = search-goes-on (above r1 r2) 0 bounds i inside so-far (negation-true (sym answer-of-bound ∙ fails))
+
+  pub no-bound-found : (i : ℕ) → i ≡ 4 → SearchAt r1 r2 i → i ≡ indexOf (noiseOf r1 r2)
+  no-bound-found i end so-far = end ∙ sym (search-ends (above r1 r2) bounds i end so-far) ∙ first-bound
 
 -- ---- the refusals of two deviations
 
@@ -163,11 +170,15 @@ module _ (r1 r2 : ℕ) {refusal : Refusal} (refusal-is : refusal ≡ noiseRefusa
   unfolding typeAnswer
   type-refused some = rw (sym refusal-is) (noise-refused refusal _ some)
 
-  pub type-given : refusal .number ≡ 0 → {i : ℕ} → i ≡ boundAt r1 r2 → typeAnswer r1 r2 ≡ givenType (typeAt i)
+  pub type-given : refusal .number ≡ 0 → {i : ℕ} {t : Noise} → i ≡ indexOf (noiseOf r1 r2) → i ≡ indexOf t → givenType t ≡ typeAnswer r1 r2
   unfolding typeAnswer
-  type-given nothing i-is = rw (sym refusal-is) (noise-given refusal _ nothing) ∙ ap givenType (sym (ap typeAt i-is ∙ type-of-bound r1 r2))
+  type-given nothing i-is t-is = ap givenType (one-type t-is i-is) ∙ rw (sym refusal-is) (sym (noise-given refusal _ nothing))
 
 -- ---- a record
+
+-- what the type of a record asks of it
+abbrev pub noiseDemand : Demand
+noiseDemand = record { largest = 5461; each = 6; besides = 0 }
 
 module _ (m : ℕ) (xs : List ℤ) where
   -- a record that is sound for the type is sound for the modified sum at m and at 2m

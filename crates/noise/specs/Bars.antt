@@ -17,23 +17,15 @@ barWidth r t = kappaOf t * r / 100
 
 -- h is the greatest whole number with h^2 M not above w^2
 unfoldable pub barHalf : ℕ → Noise → ℕ → ℕ
-barHalf r t m = greatest 64 (λ h. leb (h * h * m) (barWidth r t * barWidth r t))
+barHalf r t M = greatest 64 (λ h. leb (h * h * M) (barWidth r t * barWidth r t))
 
 -- 8 (r = 0), 3 (r above 2^62), 1 (M below 10), 2 (M above 32,767)
 unfoldable pub barsRefusal : ℕ → ℕ → Refusal
-barsRefusal r m =
-    refusedIf (eqb r 0) 8 0
-    then refusedIf (ltb (2 ^ 62) r) 3 0
-    then refusedIf (ltb m 10) 1 0
-    then refusedIf (ltb 32767 m) 2 0
+barsRefusal r M = refusedIf (eqb r 0) 8 0 then refusedIf (ltb (2 ^ 62) r) 3 0 then refusedIf (ltb M 10) 1 0 then refusedIf (ltb 32767 M) 2 0
 
 -- three doubles, drawn from r-h, r and r+h; where r-h is nought, 0.0 is drawn
 unfoldable pub barOf : ℕ → ℕ → Bar
-barOf r h = record {
-  low = cond (eqb (r - h) 0) plusZero (drawnNumber (r - h));
-  mid = drawnNumber r;
-  high = drawnNumber (r + h);
-}
+barOf r h = record { low = cond (eqb (r - h) 0) plusZero (drawnNumber (r - h)); mid = drawnNumber r; high = drawnNumber (r + h) }
 
 -- noughts
 unfoldable pub noBar : Bar
@@ -41,7 +33,7 @@ noBar = record { low = plusZero; mid = plusZero; high = plusZero }
 
 -- a bar row, and a flag set exactly if r-h is nought
 unfoldable pub barsAnswer : ℕ → Noise → ℕ → BarsAnswer
-barsAnswer r t m =
-    cond (eqb (barsRefusal r m .number) 0)
-    (record { number = 0; place = 0; bar = barOf r (barHalf r t m); touches = eqb (r - barHalf r t m) 0 })
-    (record { number = barsRefusal r m .number; place = barsRefusal r m .place; bar = noBar; touches = false })
+barsAnswer r t M =
+    cond (eqb (barsRefusal r M .number) 0)
+    (record { number = 0; place = 0; bar = barOf r (barHalf r t M); touches = eqb (r - barHalf r t M) 0 })
+    (record { number = barsRefusal r M .number; place = barsRefusal r M .place; bar = noBar; touches = false })

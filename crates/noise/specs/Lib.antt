@@ -1,3 +1,2 @@
 pub mod Noise
-pub mod NoiseOrder
 pub mod Bars

@@ -6,7 +6,6 @@ use lib.Dec.{leb, eqb}
 use lib.IntN.{ℤ, pos, negsuc}
 use Rattle.record.specs.Refusals.{refusedIf, _then_, recordRefusal}
 use Rattle.record.specs.declared.Refusal.{Refusal}
-use Rattle.record.specs.declared.Demand.{Demand}
 use Rattle.sums.specs.Published.{modifiedSum, modifiedCount, timeDenominator}
 use Rattle.variances.specs.Deviations.{deviation}
 use Rattle.noise.specs.declared.Noise.{Noise}
@@ -45,22 +44,23 @@ noiseRefusal r1 r2 = refusedIf (not (leb r1 (2 ^ 62) && leb r2 (2 ^ 62))) 3 0 th
 -- a type, or the refusal beside the first type of the table
 unfoldable pub noiseAnswer : Refusal → Noise → NoiseAnswer
 noiseAnswer r t =
-    cond (eqb (r .number) 0)
-    (record { number = 0; place = 0; noise = t })
+    cond (eqb (r .number) 0) (record { number = 0; place = 0; noise = t })
     (record { number = r .number; place = r .place; noise = WhitePhase })
 
+-- what an answer tells: the type's alpha; beside a refusal nought
+unfoldable pub toldAlpha : NoiseAnswer → ℤ
+toldAlpha a = cond (eqb (a .number) 0) (alphaOf (a .noise)) (pos 0)
+
+-- from two time deviations
 unfoldable pub typeAnswer : ℕ → ℕ → NoiseAnswer
 typeAnswer r1 r2 = noiseAnswer (noiseRefusal r1 r2) (noiseOf r1 r2)
-
--- from a record: m from 1 to 5,461 and N at least 6m
-abbrev pub noiseDemand : Demand
-noiseDemand = record { largest = 5461; each = 6; besides = 0 }
 
 -- the time deviation of a record at factor m
 unfoldable pub timeDeviation : ℕ → List ℤ → ℕ
 timeDeviation m xs = deviation (modifiedSum m xs) (timeDenominator m (modifiedCount m xs))
 
+-- from a record: m from 1 to 5,461 and N at least 6m
 unfoldable pub recordTypeAnswer : ℕ → List ℤ → NoiseAnswer
 recordTypeAnswer m xs =
-    noiseAnswer (recordRefusal noiseDemand m xs then noiseRefusal (timeDeviation m xs) (timeDeviation (2 * m) xs))
-    (noiseOf (timeDeviation m xs) (timeDeviation (2 * m) xs))
+    let r1 : ℕ = timeDeviation m xs in let r2 : ℕ = timeDeviation (2 * m) xs in
+    noiseAnswer (recordRefusal (record { largest = 5461; each = 6; besides = 0 }) m xs then noiseRefusal r1 r2) (noiseOf r1 r2)

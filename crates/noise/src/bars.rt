@@ -29,10 +29,10 @@ pub struct BarsAnswer {
 }
 
 // The bars of deviation r with noise of a type over M intervals. Refuses 8, 3, 1, then 2.
-pub fn bars(r: u64, noise: Noise, m: u64) -> BarsAnswer
-    ensures { λ z. ⌜ z ≡ barsAnswer r noise m ⌝ }
+pub fn bars(r: u64, noise: Noise, intervals: u64) -> BarsAnswer
+    ensures { λ z. ⌜ z ≡ barsAnswer r noise intervals ⌝ }
 {
-    let refusal = bars_refusal(r, m);
+    let refusal = bars_refusal(r, intervals);
     if refusal.number != 0 {
         return BarsAnswer {
             number: refusal.number,
@@ -41,7 +41,7 @@ pub fn bars(r: u64, noise: Noise, m: u64) -> BarsAnswer
             touches: false,
         };
     }
-    let half = half_of(width_of(r, kappa(noise)), m);
+    let half = half_of(width_of(r, kappa(noise)), intervals);
     BarsAnswer {
         number: 0,
         place: 0,
@@ -51,8 +51,8 @@ pub fn bars(r: u64, noise: Noise, m: u64) -> BarsAnswer
 }
 
 // 8 for r = 0, 3 for r above 2^62, 1 for M below 10, 2 for M above 32,767.
-fn bars_refusal(r: u64, m: u64) -> Refusal
-    ensures { λ z. ⌜ z ≡ barsRefusal r m ⌝ }
+fn bars_refusal(r: u64, intervals: u64) -> Refusal
+    ensures { λ z. ⌜ z ≡ barsRefusal r intervals ⌝ }
 {
     if r == 0 {
         return at_nought(record::NO_DEVIATION);
@@ -60,10 +60,10 @@ fn bars_refusal(r: u64, m: u64) -> Refusal
     if 4611686018427387904 < r {
         return at_nought(record::OUT_OF_RANGE);
     }
-    if m < 10 {
+    if intervals < 10 {
         return at_nought(record::TOO_FEW);
     }
-    if record::MOST_READINGS < m {
+    if record::MOST_READINGS < intervals {
         return at_nought(record::TOO_MANY);
     }
     at_nought(0)
@@ -78,11 +78,11 @@ fn width_of(r: u64, kappa: u64) -> u64
 }
 
 // h: the greatest whole number with h^2 M not above w^2, which is the root of w^2 / M.
-fn half_of(width: u64, m: u64) -> u64
-    requires { ⌜ 1 ≤ m ⌝ }
-    ensures { λ h. ⌜ h ≡ greatest 64 (λ k. leb (k * k * m) (width * width)) ⌝ }
+fn half_of(width: u64, intervals: u64) -> u64
+    requires { ⌜ 1 ≤ intervals ⌝ }
+    ensures { λ h. ⌜ h ≡ greatest 64 (λ k. leb (k * k * intervals) (width * width)) ⌝ }
 {
-    let division = wide::divided(wide::product(width, width), m);
+    let division = wide::divided(wide::product(width, width), intervals);
     wide::root(division.quotient)
 }
 

@@ -4,10 +4,11 @@ pub mod bars;
 use record::Demand;
 use record::Refusal;
 ghost use mathlib.Core.Path.{_≡_};
+ghost use Prim.Native.Nat.{_≤_};
+ghost use lib.IntN.{pos, natAbs, _-ℤ_};
 ghost use Rattle.record.specs.Refusals.{none, recordRefusal};
 ghost use Rattle.sums.specs.Answers.{modifiedDemand};
-ghost use Rattle.noise.specs.NoiseOrder.{typeAt, indexOf, boundAt};
-ghost use Rattle.noise.specs.Noise.{kappaOf, noiseRefusal, typeAnswer, timeDeviation, recordTypeAnswer};
+ghost use Rattle.noise.specs.Noise.{alphaOf, kappaOf, noiseOf, noiseRefusal, typeAnswer, timeDeviation, recordTypeAnswer};
 
 // The five types; no other can be handed in.
 pub enum Noise {
@@ -96,9 +97,9 @@ fn noise_refusal(r1: u64, r2: u64) -> Refusal
     at_nought(0)
 }
 
-// The first bound that 4096 r2 is at or under, of r1 times each; 4 where it is above all.
+// The place of the type by the house rule: the first bound that 4096 r2 is at or under, of r1 times each; 4 where it is above all.
 fn bound_of(r1: u64, r2: u64) -> usize
-    ensures { λ i. ⌜ i ≡ boundAt r1 r2 ⌝ }
+    ensures { λ i. ⌜ i ≡ natAbs (pos 2 -ℤ alphaOf (noiseOf r1 r2)) ⌝ }
 {
     let ratio = wide::product(4096, r2);
     let mut i: usize = 0;
@@ -111,9 +112,10 @@ fn bound_of(r1: u64, r2: u64) -> usize
     i
 }
 
-// The types in their order.
+// The type at a place of the table.
 fn type_at(index: usize) -> Noise
-    ensures { λ t. ⌜ t ≡ typeAt index ⌝ }
+    requires { ⌜ index ≤ 4 ⌝ }
+    ensures { λ t. ⌜ index ≡ natAbs (pos 2 -ℤ alphaOf t) ⌝ }
 {
     match index {
         0 => Noise::WhitePhase,
@@ -124,9 +126,9 @@ fn type_at(index: usize) -> Noise
     }
 }
 
-// The place of a type in that order.
+// The place of a type in the table, whose alpha falls from 2 by one a row.
 fn index_of(noise: Noise) -> usize
-    ensures { λ i. ⌜ i ≡ indexOf noise ⌝ }
+    ensures { λ i. ⌜ i ≡ natAbs (pos 2 -ℤ alphaOf noise) ⌝ }
 {
     match noise {
         Noise::WhitePhase => 0,

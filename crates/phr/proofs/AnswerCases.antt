@@ -5,11 +5,17 @@ use Prim.Native.Nat.{ℕ, _<_}
 use native.Mathlib.Omega.{arith}
 use borrow.Author.Tests.{ne-eqb}
 use lib.IntN.{ℤ}
+use lib.ListN.{length}
 use Rattle.laws.specs.Lists.{written}
 use Rattle.record.specs.Answers.{bufferLeft}
 use Rattle.record.specs.Refusals.{none, refused}
-use Rattle.phr.specs.Reading.{kindOf, countOf, valuesFrom, valuesOf, readRefusal, readAnswer}
+use Rattle.phr.specs.Reading.{kindOf, countOf, valuesOf, readRefusal, readAnswer}
 use Rattle.phr.specs.declared.ReadAnswer.{ReadAnswer}
+use Rattle.phr.proofs.ValueLaws.{valuesFrom}
+
+-- the lent buffer as it is left
+abbrev pub readBuffer : List ℕ → List ℤ → List ℤ
+readBuffer bytes buffer = bufferLeft (readRefusal bytes (length buffer)) (valuesOf bytes) buffer
 
 module _ (bytes : List ℕ) (room : ℕ) (buffer : List ℤ) where
   pub read-refused : {answer : ReadAnswer} (n p : ℕ) → 0 < n → readRefusal bytes room ≡ refused n p → answer ≡ record { number = n; place = p; kind = 0; count = 0 } →

@@ -16,16 +16,16 @@ use Rattle.laws.specs.Lists.{at, tabulate}
 use Rattle.record.specs.Answers.{bufferLeft}
 use Rattle.record.specs.Refusals.{none}
 use Rattle.record.specs.declared.Refusal.{Refusal}
-use Rattle.phr.specs.Bytes.{lowFirst, valueBytes, valuesBytes, valueAt}
+use Rattle.phr.specs.Bytes.{lowFirst, valuesBytes, valueAt}
 use Rattle.phr.specs.File.{header, fileOf, Proper, IsFile, AreBytes}
-use Rattle.phr.specs.Reading.{headerTests, soundUpTo, kindOf, countOf, rightLength, valuesFrom, valuesOf, readRefusal, readAnswer}
+use Rattle.phr.specs.Reading.{headerTests, soundUpTo, kindOf, countOf, valuesOf, readRefusal, readAnswer}
 use Rattle.phr.specs.Writing.{writeRefusal}
 use Rattle.phr.proofs.ByteLaws.{front-entries, low-first-bytes, bytes-more, bytes-joined}
 use Rattle.phr.proofs.HeaderLaws.{passed-before}
 use Rattle.phr.proofs.RangeCases.{in-range-fits}
 use Rattle.phr.proofs.ReadCases.{Readable, readable-none, unrefused-readable, values-of-length, sound-within, most-values-bounded}
 use Rattle.phr.proofs.WriteCases.{unrefused-writable}
-use Rattle.phr.proofs.ValueLaws.{value-back, values-back, values-bytes-length, values-bytes-are-bytes, values-bytes-back}
+use Rattle.phr.proofs.ValueLaws.{valueBytes, valuesFrom, value-back, values-back, values-bytes-length, values-bytes-are-bytes, values-bytes-back}
 
 -- ---- a value
 
@@ -49,8 +49,8 @@ file-bytes kind values known =
     bytes-joined (header kind (length values)) (valuesBytes values) mark (values-bytes-are-bytes values)
 
 -- a file is 8 bytes and 8 for each value
-pub file-length : (kind : ℕ) (values : List ℤ) → length (fileOf kind values) ≡ rightLength (length values)
-unfolding fileOf header lowFirst rightLength
+pub file-length : (kind : ℕ) (values : List ℤ) → length (fileOf kind values) ≡ 8 + 8 * length values
+unfolding fileOf header lowFirst
 file-length kind values = omega (arith, values-bytes-length values)
 
 module _ (kind : ℕ) (values : List ℤ) (proper : Proper kind values) where
@@ -78,7 +78,7 @@ module _ (kind : ℕ) (values : List ℤ) (proper : Proper kind values) where
   file-readable room enough = record {
     sound = omega (arith, file-sound);
     few = rw (kind-comes-back, count-comes-back) (proper .few);
-    whole = file-length kind values ∙ ap rightLength (sym count-comes-back);
+    whole = file-length kind values ∙ ap (λ (n : ℕ). 8 + 8 * n) (sym count-comes-back);
     enough = rw count-comes-back enough;
     in-range = rw (count-comes-back, kind-comes-back, values-come-back) (proper .in-range);
   }
@@ -99,7 +99,7 @@ unrefused-proper kind values room unrefused =
 
 -- and the front of the buffer that it leaves is the file
 pub buffer-has-file : (kind : ℕ) (values : List ℤ) (buffer : List ℕ) → writeRefusal kind values (length buffer) ≡ none →
-    take (rightLength (length values)) (bufferLeft (writeRefusal kind values (length buffer)) (fileOf kind values) buffer) ≡ fileOf kind values
+    take (8 + 8 * length values) (bufferLeft (writeRefusal kind values (length buffer)) (fileOf kind values) buffer) ≡ fileOf kind values
 unfolding bufferLeft
 buffer-has-file kind values buffer unrefused = rw unrefused (take-at (fileOf kind values) _ _ (file-length kind values))
 
@@ -129,7 +129,7 @@ module _ (bytes : List ℕ) (all : AreBytes bytes) (room : ℕ) (accepted : read
       front-entries 8 bytes 0 long-enough ∙ rw (mark₀, mark₁, mark₂, version₀, version₁, low, high)
 
   values-there : drop 8 bytes ≡ valuesBytes (valuesOf bytes)
-  unfolding valuesOf rightLength
+  unfolding valuesOf
   values-there =
       sym (take-all (8 * countOf bytes) (drop 8 bytes) (omega (arith, readable .whole, length-drop 8 bytes)))
       ∙ sym (values-bytes-back (countOf bytes) 8 bytes all (omega (arith, readable .whole)))

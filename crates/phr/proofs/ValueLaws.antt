@@ -13,8 +13,7 @@ use mir.Syntax.{w64}
 use mir.Val.{SFits, toZ, ofZ}
 use Rattle.laws.specs.Lists.{at, tabulate}
 use Rattle.laws.proofs.ListLaws.{tabulate-length, tabulate-entry, tabulate-equal}
-use Rattle.phr.specs.Bytes.{lowFirst, fromLowFirst, twosComplement, signed, valueBytes, valuesBytes, valueAt}
-use Rattle.phr.specs.Reading.{valuesFrom}
+use Rattle.phr.specs.Bytes.{lowFirst, fromLowFirst, twosComplement, signed, valuesBytes, valueAt}
 use Rattle.phr.specs.File.{AreBytes}
 use Rattle.phr.proofs.ByteLaws.{writtenFrom, written-from-none, written-from-next, stores-from, bytes-taken, bytes-dropped, bytes-joined, low-first-length, low-first-bytes, low-first-back, from-low-first-below, from-low-first-back, from-low-first-append}
 use Rattle.phr.proofs.SignLaws.{twos-complement-below, twos-complement-back, signed-back, loaded-value}
@@ -69,10 +68,13 @@ word-bytes n h =
     let top : n / 72057594037927936 % 256 ≡ n / 72057594037927936 = omega arith in
     simp (div-div-eq-div-mul, top)
 
+-- a value as 8 bytes
+abbrev pub valueBytes : ℤ → List ℕ
+valueBytes z = lowFirst 8 (twosComplement z)
+
 pub value-stored : (buffer : List ℕ) (place : ℕ) (z : ℤ) → place + 8 ≤ length buffer → SFits w64 z → {n : ℕ} → n ≡ twosComplement z →
     set (set (set (set (set (set (set (set buffer place (n % 256)) (place + 1) (n / 256 % 256)) (place + 2) (n / 65536 % 256)) (place + 3) (n / 16777216 % 256)) (place + 4) (n / 4294967296 % 256)) (place + 5) (n / 1099511627776 % 256)) (place + 6) (n / 281474976710656 % 256)) (place + 7) (n / 72057594037927936)
     ≡ writtenFrom place (valueBytes z) buffer
-unfolding valueBytes
 value-stored buffer place z room fits {n} e =
     rw (← e, word-bytes n (rw e (twos-complement-below z fits)), add-one, add-two, add-three, add-four, add-five, add-six, add-seven)
     (stores-from place (n % 256 ∷ n / 256 % 256 ∷ n / 65536 % 256 ∷ n / 16777216 % 256 ∷ n / 4294967296 % 256 ∷ n / 1099511627776 % 256 ∷ n / 281474976710656 % 256 ∷ n / 72057594037927936 ∷ []) buffer room)
@@ -80,22 +82,20 @@ value-stored buffer place z room fits {n} e =
 -- ---- a value
 
 pub value-bytes-length : (z : ℤ) → length (valueBytes z) ≡ 8
-unfolding valueBytes
 value-bytes-length z = low-first-length 8 (twosComplement z)
 
 pub value-bytes-are-bytes : (z : ℤ) → AreBytes (valueBytes z)
-unfolding valueBytes
 value-bytes-are-bytes z = low-first-bytes 8 (twosComplement z)
 
 pub value-back : (before after : List ℕ) (place : ℕ) (z : ℤ) → length before ≡ place → SFits w64 z → valueAt (before ++ (valueBytes z ++ after)) place ≡ z
-unfolding valueAt valueBytes
+unfolding valueAt
 value-back before after place z e fits =
     rw (drop-at before _ place e, take-at (lowFirst 8 (twosComplement z)) after 8 (low-first-length 8 (twosComplement z)), low-first-back 8 (twosComplement z) (twos-complement-below z fits))
     (twos-complement-back z fits)
 
 module _ (bytes : List ℕ) (place : ℕ) (all : AreBytes bytes) (inside : place + 8 ≤ length bytes) where
   pub value-bytes-back : valueBytes (valueAt bytes place) ≡ take 8 (drop place bytes)
-  unfolding valueAt valueBytes
+  unfolding valueAt
   value-bytes-back =
       let eight = take 8 (drop place bytes) in
       let there : length eight ≡ 8 = bytes-there bytes place 8 inside in
@@ -119,9 +119,13 @@ unfolding valuesBytes
 values-bytes-append [] zs = refl
 values-bytes-append (y ∷ ys) zs = rw (values-bytes-append ys zs, append-assoc)
 
+-- so many values from a place on
+abbrev pub valuesFrom : ℕ → ℕ → List ℕ → List ℤ
+valuesFrom place count bytes = tabulate count (λ i. valueAt bytes (place + 8 * i))
+
 -- the first apart
 values-from-first : (place count : ℕ) (bytes : List ℕ) → valuesFrom place (suc count) bytes ≡ valueAt bytes place ∷ valuesFrom (place + 8) count bytes
-unfolding valuesFrom tabulate
+unfolding tabulate
 values-from-first place count bytes =
     ap₂ _∷_
     (ap (valueAt bytes) (omega arith))
@@ -129,7 +133,7 @@ values-from-first place count bytes =
 
 pub values-back : (zs : List ℤ) (before after : List ℕ) (place : ℕ) → length before ≡ place → ((i : ℕ) → i < length zs → SFits w64 (at zs i)) →
     valuesFrom place (length zs) (before ++ (valuesBytes zs ++ after)) ≡ zs
-unfolding valuesFrom tabulate valuesBytes
+unfolding tabulate valuesBytes
 values-back [] before after place e fits = refl
 values-back (z ∷ zs) before after place e fits =
     let first = value-back before (valuesBytes zs ++ after) place z e (fits 0 (omega arith)) in
@@ -140,7 +144,7 @@ values-back (z ∷ zs) before after place e fits =
 
 pub values-bytes-back : (count place : ℕ) (bytes : List ℕ) → AreBytes bytes → place + 8 * count ≤ length bytes →
     valuesBytes (valuesFrom place count bytes) ≡ take (8 * count) (drop place bytes)
-unfolding valuesFrom tabulate valuesBytes
+unfolding tabulate valuesBytes
 values-bytes-back zero place bytes all h = refl
 values-bytes-back (suc count) place bytes all h =
     let next : 8 * suc count ≡ 8 + 8 * count = omega arith in
@@ -152,7 +156,6 @@ values-bytes-back (suc count) place bytes all h =
 
 module _ (place count : ℕ) (bytes : List ℕ) where
   pub values-from-length : length (valuesFrom place count bytes) ≡ count
-  unfolding valuesFrom
   values-from-length = tabulate-length count (λ i. valueAt bytes (place + 8 * i))
 
   module _ (i : ℕ) (inside : i < count) where
@@ -161,7 +164,6 @@ module _ (place count : ℕ) (bytes : List ℕ) where
 
     -- a value as the machine hands it on
     pub values-from-entry : {v : ℤ} → v ≡ valueAt bytes (place + 8 * i) → mag v < 2 ^ 63 → toZ w64 (ofZ w64 v) ≡ at (valuesFrom place count bytes) i
-    unfolding valuesFrom
     values-from-entry e fits =
         loaded-value _ fits ∙ e ∙ sym (tabulate-entry count (λ k. valueAt bytes (place + 8 * k)) (pos 0) i inside)
 

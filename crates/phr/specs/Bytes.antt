@@ -25,14 +25,10 @@ twosComplement (negsuc n) = 2 ^ 64 - suc n
 unfoldable pub signed : ℕ → ℤ
 signed n = cond (ltb n (2 ^ 63)) (pos n) (negsuc (2 ^ 64 - 1 - n))
 
--- a value as 8 bytes: two's complement, low byte first
-unfoldable pub valueBytes : ℤ → List ℕ
-valueBytes z = lowFirst 8 (twosComplement z)
-
--- values one after the other
+-- values one after the other, each as 8 bytes: two's complement, low byte first
 unfoldable pub valuesBytes : List ℤ → List ℕ
 valuesBytes [] = []
-valuesBytes (z ∷ zs) = valueBytes z ++ valuesBytes zs
+valuesBytes (z ∷ zs) = lowFirst 8 (twosComplement z) ++ valuesBytes zs
 
 -- the value whose 8 bytes start at a place
 unfoldable pub valueAt : List ℕ → ℕ → ℤ

@@ -61,9 +61,9 @@ pub(crate) fn most_values(kind: u64) -> usize
     ensures { λ r. ⌜ r ≡ mostValues kind ⌝ }
 {
     if kind == 0 {
-        return 32768;
+        return record::MOST_SAMPLES as usize;
     }
-    32767
+    record::MOST_READINGS as usize
 }
 
 // The header at the front of the buffer.

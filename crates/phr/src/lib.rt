@@ -5,9 +5,12 @@ mod values;
 use record::CountAnswer;
 use record::Refusal;
 ghost use mathlib.Core.Path.{_≡_};
+ghost use Prim.Native.Nat.{_+_, _*_};
 ghost use lib.ListN.{length};
-ghost use Rattle.phr.specs.Reading.{readRefusal, readAnswer, readBuffer};
-ghost use Rattle.phr.specs.Writing.{writeRefusal, writeAnswer, writeBuffer};
+ghost use Rattle.record.specs.Answers.{countAnswer, bufferLeft};
+ghost use Rattle.phr.specs.File.{fileOf};
+ghost use Rattle.phr.specs.Reading.{valuesOf, readRefusal, readAnswer};
+ghost use Rattle.phr.specs.Writing.{writeRefusal};
 
 // The kind of a file and how many values it holds.
 #[repr(C)]
@@ -20,7 +23,8 @@ pub struct ReadAnswer {
 
 // Reads a file's values into the buffer. Refuses 9 at a header byte, 2, 9 at the length, 6, then 3 at the first value outside its range.
 pub fn read_file(bytes: &[u8], buffer: &mut [i64]) -> ReadAnswer
-    ensures { λ r. ⌜ (r ≡ readAnswer (now (bytes .entry)) (length (now (buffer .entry)))) × (now (buffer .exit) ≡ readBuffer (now (bytes .entry)) (now (buffer .entry))) ⌝ }
+    ensures { λ r. ⌜ r ≡ readAnswer (now (bytes .entry)) (length (now (buffer .entry))) ⌝ }
+    ensures { λ r. ⌜ now (buffer .exit) ≡ bufferLeft (readRefusal (now (bytes .entry)) (length (now (buffer .entry)))) (valuesOf (now (bytes .entry))) (now (buffer .entry)) ⌝ }
 {
     let refusal = read_refusal(bytes, buffer.len());
     let number = refusal.number;
@@ -44,7 +48,8 @@ pub fn read_file(bytes: &[u8], buffer: &mut [i64]) -> ReadAnswer
 
 // Writes the file of a kind and its values to the front of the buffer. Refuses 9 at place 5, 2, 6, then 3 at the first value outside its range.
 pub fn write_file(kind: u64, values: &[i64], buffer: &mut [u8]) -> CountAnswer
-    ensures { λ r. ⌜ (r ≡ writeAnswer kind (now (values .entry)) (length (now (buffer .entry)))) × (now (buffer .exit) ≡ writeBuffer kind (now (values .entry)) (now (buffer .entry))) ⌝ }
+    ensures { λ r. ⌜ r ≡ countAnswer (writeRefusal kind (now (values .entry)) (length (now (buffer .entry)))) (8 + 8 * length (now (values .entry))) ⌝ }
+    ensures { λ r. ⌜ now (buffer .exit) ≡ bufferLeft (writeRefusal kind (now (values .entry)) (length (now (buffer .entry)))) (fileOf kind (now (values .entry))) (now (buffer .entry)) ⌝ }
 {
     let refusal = write_refusal(kind, values, buffer.len());
     let number = refusal.number;

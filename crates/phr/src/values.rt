@@ -4,16 +4,15 @@ ghost use mathlib.Core.Path.{_≡_};
 ghost use mathlib.Core.List.{_++_};
 ghost use Prim.Native.Nat.{_+_, _*_, _≤_, _<_};
 ghost use lib.ListN.{length, take, drop};
-ghost use Rattle.laws.specs.Lists.{written, firstFailing};
-ghost use Rattle.phr.specs.Bytes.{fromLowFirst, twosComplement, valueBytes, valuesBytes, valueAt};
+ghost use Rattle.laws.specs.Lists.{tabulate, written, firstFailing};
+ghost use Rattle.phr.specs.Bytes.{lowFirst, fromLowFirst, twosComplement, valuesBytes, valueAt};
 ghost use Rattle.phr.specs.Bytes.{signed as signedOf};
 ghost use Rattle.phr.specs.File.{valueInRange};
-ghost use Rattle.phr.specs.Reading.{valuesFrom};
 
 // The first of count values outside the range of their kind, or count.
 pub(crate) fn first_outside(bytes: &[u8], kind: u64, count: usize) -> usize
     requires { ⌜ 8 + 8 * count ≤ length (now bytes) ⌝ }
-    ensures { λ r. ⌜ r ≡ firstFailing (valueInRange kind) (valuesFrom 8 count (now (bytes .entry))) ⌝ }
+    ensures { λ r. ⌜ r ≡ firstFailing (valueInRange kind) (tabulate count (λ i. valueAt (now (bytes .entry)) (8 + 8 * i))) ⌝ }
 {
     let mut i: usize = 0;
     while i < count {
@@ -29,7 +28,7 @@ pub(crate) fn first_outside(bytes: &[u8], kind: u64, count: usize) -> usize
 // The values at the front of the buffer.
 pub(crate) fn read_values(bytes: &[u8], count: usize, buffer: &mut [i64])
     requires { ⌜ (8 + 8 * count ≤ length (now bytes)) × (count ≤ length (now buffer)) ⌝ }
-    ensures { λ r. ⌜ now (buffer .exit) ≡ written (valuesFrom 8 count (now (bytes .entry))) (now (buffer .entry)) ⌝ }
+    ensures { λ r. ⌜ now (buffer .exit) ≡ written (tabulate count (λ i. valueAt (now (bytes .entry)) (8 + 8 * i))) (now (buffer .entry)) ⌝ }
 {
     let mut i: usize = 0;
     while i < count {
@@ -122,7 +121,7 @@ fn unsigned(z: i64) -> u64
 // A value's eight bytes from a place on.
 fn write_value(buffer: &mut [u8], place: usize, z: i64)
     requires { ⌜ place + 8 ≤ length (now buffer) ⌝ }
-    ensures { λ r. ⌜ now (buffer .exit) ≡ take place (now (buffer .entry)) ++ written (valueBytes z) (drop place (now (buffer .entry))) ⌝ }
+    ensures { λ r. ⌜ now (buffer .exit) ≡ take place (now (buffer .entry)) ++ written (lowFirst 8 (twosComplement z)) (drop place (now (buffer .entry))) ⌝ }
 {
     let n = unsigned(z);
     buffer[place] = (n % 256) as u8;

@@ -1,10 +1,9 @@
 -- What C cannot hand over, told in numbers: a dot is a kind and a double, a noise type is its alpha.
-use mathlib.Core.Bool.{false, cond}
+use mathlib.Core.Bool.{false}
 use Prim.Native.Nat.{ℕ, zero, suc}
-use lib.Dec.{eqb}
 use lib.IntN.{ℤ, pos, negsuc}
 use Rattle.plot.specs.Dots.{dotValue}
-use Rattle.noise.specs.Noise.{alphaOf}
+use Rattle.noise.specs.Noise.{toldAlpha}
 use Rattle.noise.specs.Bars.{noBar, barsAnswer}
 use Rattle.plot.specs.declared.dots.Dot.{Dot}
 use Rattle.plot.specs.declared.dots.Dot.the-variants.{Drawn, Nought, TooFew}
@@ -27,7 +26,7 @@ toldDot a = record { number = a .number; place = a .place; kind = dotKind (a .do
 
 -- an answer's type as its alpha; beside a refusal nought
 unfoldable pub toldNoise : NoiseAnswer → ToldNoise
-toldNoise a = record { number = a .number; place = a .place; alpha = cond (eqb (a .number) 0) (alphaOf (a .noise)) (pos 0) }
+toldNoise a = record { number = a .number; place = a .place; alpha = toldAlpha a }
 
 -- an alpha that no type has is refused 3, before all else
 unfoldable pub noSuchType : BarsAnswer
@@ -35,10 +34,10 @@ noSuchType = record { number = 3; place = 0; bar = noBar; touches = false }
 
 -- bars for noise of the type that has this alpha
 unfoldable pub barsByAlpha : ℕ → ℤ → ℕ → BarsAnswer
-barsByAlpha r (pos zero) m = barsAnswer r WhiteFrequency m
-barsByAlpha r (pos (suc zero)) m = barsAnswer r FlickerPhase m
-barsByAlpha r (pos (suc (suc zero))) m = barsAnswer r WhitePhase m
-barsByAlpha r (pos (suc (suc (suc n)))) m = noSuchType
-barsByAlpha r (negsuc zero) m = barsAnswer r FlickerFrequency m
-barsByAlpha r (negsuc (suc zero)) m = barsAnswer r RandomWalkFrequency m
-barsByAlpha r (negsuc (suc (suc n))) m = noSuchType
+barsByAlpha r (pos zero) M = barsAnswer r WhiteFrequency M
+barsByAlpha r (pos (suc zero)) M = barsAnswer r FlickerPhase M
+barsByAlpha r (pos (suc (suc zero))) M = barsAnswer r WhitePhase M
+barsByAlpha r (pos (suc (suc (suc n)))) M = noSuchType
+barsByAlpha r (negsuc zero) M = barsAnswer r FlickerFrequency M
+barsByAlpha r (negsuc (suc zero)) M = barsAnswer r RandomWalkFrequency M
+barsByAlpha r (negsuc (suc (suc n))) M = noSuchType

@@ -10,7 +10,8 @@ use wide::Wide;
 ghost use mathlib.Core.Path.{_≡_};
 ghost use Rattle.wide.specs.Wide.{value};
 ghost use Rattle.plot.specs.Drawn.{drawnAnswer};
-ghost use Rattle.plot.specs.Dots.{allanDotAnswer, timeDotAnswer};
+ghost use Rattle.variances.specs.Answers.{allanDeviationAnswer, timeDeviationAnswer};
+ghost use Rattle.plot.specs.Dots.{dotAnswer};
 ghost use Rattle.noise.specs.Noise.{alphaOf, typeAnswer, recordTypeAnswer};
 ghost use Rattle.ploegelster.specs.Boundary.{toldDot, toldNoise, noSuchType, barsByAlpha};
 
@@ -42,7 +43,7 @@ pub extern "C" fn plg_drawn_number(r: u64) -> DrawnAnswer
 // The dot of an Allan deviation.
 #[no_mangle]
 pub extern "C" fn plg_allan_dot(sum: Wide, m: u64, count: u64) -> ToldDot
-    ensures { λ r. ⌜ r ≡ toldDot (allanDotAnswer (value sum) m count) ⌝ }
+    ensures { λ r. ⌜ r ≡ toldDot (dotAnswer (allanDeviationAnswer (value sum) m count)) ⌝ }
 {
     told_dot(plot::dots::allan_dot(sum, m, count))
 }
@@ -50,7 +51,7 @@ pub extern "C" fn plg_allan_dot(sum: Wide, m: u64, count: u64) -> ToldDot
 // The dot of a time deviation.
 #[no_mangle]
 pub extern "C" fn plg_time_dot(sum: Wide, m: u64, count: u64) -> ToldDot
-    ensures { λ r. ⌜ r ≡ toldDot (timeDotAnswer (value sum) m count) ⌝ }
+    ensures { λ r. ⌜ r ≡ toldDot (dotAnswer (timeDeviationAnswer (value sum) m count)) ⌝ }
 {
     told_dot(plot::dots::time_dot(sum, m, count))
 }

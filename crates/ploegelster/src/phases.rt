@@ -2,14 +2,17 @@
 use drift::DriftAnswer;
 use record::CountAnswer;
 ghost use mathlib.Core.Path.{_≡_};
+ghost use Prim.Native.Nat.{_+_, _-_};
 ghost use lib.ListN.{length};
-ghost use Rattle.frequency.specs.Frequency.{phaseAnswer, phaseBuffer, frequencyAnswer, frequencyBuffer};
-ghost use Rattle.drift.specs.Drift.{driftAnswer, removalAnswer, removalBuffer};
+ghost use Rattle.record.specs.Answers.{countAnswer, bufferLeft};
+ghost use Rattle.frequency.specs.Frequency.{phases, phaseRefusal, differences, frequencyRefusal};
+ghost use Rattle.drift.specs.Drift.{driftAnswer, withoutDrift, removalRefusal};
 
 // Phases from readings.
 #[no_mangle]
 pub extern "C" fn plg_phase_from_frequency(readings: &[i64], buffer: &mut [i64]) -> CountAnswer
-    ensures { λ r. ⌜ (r ≡ phaseAnswer (now (readings .entry)) (length (now (buffer .entry)))) × (now (buffer .exit) ≡ phaseBuffer (now (readings .entry)) (now (buffer .entry))) ⌝ }
+    ensures { λ r. ⌜ r ≡ countAnswer (phaseRefusal (now (readings .entry)) (length (now (buffer .entry)))) (length (now (readings .entry)) + 1) ⌝ }
+    ensures { λ r. ⌜ now (buffer .exit) ≡ bufferLeft (phaseRefusal (now (readings .entry)) (length (now (buffer .entry)))) (phases (now (readings .entry))) (now (buffer .entry)) ⌝ }
 {
     frequency::phase_from_frequency(readings, buffer)
 }
@@ -17,7 +20,8 @@ pub extern "C" fn plg_phase_from_frequency(readings: &[i64], buffer: &mut [i64])
 // Readings from phases.
 #[no_mangle]
 pub extern "C" fn plg_frequency_from_phase(samples: &[i64], buffer: &mut [i64]) -> CountAnswer
-    ensures { λ r. ⌜ (r ≡ frequencyAnswer (now (samples .entry)) (length (now (buffer .entry)))) × (now (buffer .exit) ≡ frequencyBuffer (now (samples .entry)) (now (buffer .entry))) ⌝ }
+    ensures { λ r. ⌜ r ≡ countAnswer (frequencyRefusal (now (samples .entry)) (length (now (buffer .entry)))) (length (now (samples .entry)) - 1) ⌝ }
+    ensures { λ r. ⌜ now (buffer .exit) ≡ bufferLeft (frequencyRefusal (now (samples .entry)) (length (now (buffer .entry)))) (differences (now (samples .entry))) (now (buffer .entry)) ⌝ }
 {
     frequency::frequency_from_phase(samples, buffer)
 }
@@ -33,7 +37,8 @@ pub extern "C" fn plg_drift_figure(samples: &[i64]) -> DriftAnswer
 // A record without its drift.
 #[no_mangle]
 pub extern "C" fn plg_remove_drift(samples: &[i64], buffer: &mut [i64]) -> CountAnswer
-    ensures { λ r. ⌜ (r ≡ removalAnswer (now (samples .entry)) (length (now (buffer .entry)))) × (now (buffer .exit) ≡ removalBuffer (now (samples .entry)) (now (buffer .entry))) ⌝ }
+    ensures { λ r. ⌜ r ≡ countAnswer (removalRefusal (now (samples .entry)) (length (now (buffer .entry)))) (length (now (samples .entry))) ⌝ }
+    ensures { λ r. ⌜ now (buffer .exit) ≡ bufferLeft (removalRefusal (now (samples .entry)) (length (now (buffer .entry)))) (withoutDrift (now (samples .entry))) (now (buffer .entry)) ⌝ }
 {
     drift::remove_drift(samples, buffer)
 }

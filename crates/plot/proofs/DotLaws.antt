@@ -11,11 +11,11 @@ use Rattle.record.specs.declared.Refusal.{Refusal}
 use Rattle.record.proofs.RefusalLaws.{refusal-stands, none-gives-way}
 use Rattle.sums.specs.Published.{allanDenominator, timeDenominator}
 use Rattle.variances.specs.Deviations.{deviation}
-use Rattle.variances.specs.Answers.{figureRefusal, deviationRefusal, deviationAnswer, allanDeviationAnswer, timeDeviationAnswer}
+use Rattle.variances.specs.Answers.{figureRefusal, deviationAnswer, allanDeviationAnswer, timeDeviationAnswer}
 use Rattle.variances.specs.declared.DeviationAnswer.{DeviationAnswer}
 use Rattle.variances.proofs.AnswerLaws.{noDeviation, largeRefusal, above-refused, not-above-given, deviation-refused, allan-deviation-refused, time-deviation-refused}
 use Rattle.plot.specs.Drawn.{plusZero, drawnNumber}
-use Rattle.plot.specs.Dots.{dotNumber, dotValue, dotOf, dotAnswer, allanDotAnswer, timeDotAnswer}
+use Rattle.plot.specs.Dots.{dotNumber, dotValue, dotAnswer}
 use Rattle.plot.specs.declared.dots.Dot.{Dot}
 use Rattle.plot.specs.declared.dots.Dot.the-variants.{Drawn, Nought, TooFew}
 use Rattle.plot.specs.declared.dots.DotAnswer.{DotAnswer}
@@ -28,11 +28,11 @@ givenDot dot = record { number = 0; place = 0; dot = dot }
 
 module _ (d : DeviationAnswer) where
   pub nought-dot : d .number ≡ 0 → d .deviation ≡ 0 → dotAnswer d ≡ givenDot Nought
-  unfolding dotOf dotAnswer
+  unfolding dotAnswer
   nought-dot answered nought = rw (eq-eqb (d .number) 0 answered, eq-eqb (d .deviation) 0 nought)
 
   pub drawn-dot : d .number ≡ 0 → (d .deviation ≡ 0 → ⊥) → dotAnswer d ≡ givenDot (Drawn (drawnNumber (d .deviation)))
-  unfolding dotOf dotAnswer
+  unfolding dotAnswer
   drawn-dot answered some = rw (eq-eqb (d .number) 0 answered, ne-eqb (d .deviation) 0 some)
 
   pub too-few-dot : d .number ≡ 1 → dotAnswer d ≡ givenDot TooFew
@@ -89,11 +89,11 @@ at-most figure r = elim (eq-zero-or-pos (figure .number)) [
 
 module _ (s m count : ℕ) where
   pub allan-at-most : allanDeviationAnswer s m count .deviation ≤ 2 ^ 62
-  unfolding allanDeviationAnswer deviationRefusal
+  unfolding allanDeviationAnswer
   allan-at-most = at-most (figureRefusal s m count) (deviation s (allanDenominator m count))
 
   pub time-at-most : timeDeviationAnswer s m count .deviation ≤ 2 ^ 62
-  unfolding timeDeviationAnswer deviationRefusal
+  unfolding timeDeviationAnswer
   time-at-most = at-most (figureRefusal s m count) (deviation s (timeDenominator m count))
 
 -- ---- a count of 0 gives too few
@@ -106,10 +106,8 @@ module _ (s m : ℕ) (least : 1 ≤ m) (most : m ≤ 10922) where
   some-refusal : figureRefusal s m 0 .number ≡ 0 → ⊥
   some-refusal nothing = omega (arith, ap (λ (r : Refusal). r .number) count-nought)
 
-  pub allan-too-few : allanDotAnswer s m 0 ≡ givenDot TooFew
-  unfolding allanDotAnswer
+  pub allan-too-few : dotAnswer (allanDeviationAnswer s m 0) ≡ givenDot TooFew
   allan-too-few = ap dotAnswer (allan-deviation-refused s m 0 some-refusal ∙ ap noDeviation count-nought) ∙ too-few-dot (noDeviation (refused 1 0)) refl
 
-  pub time-too-few : timeDotAnswer s m 0 ≡ givenDot TooFew
-  unfolding timeDotAnswer
+  pub time-too-few : dotAnswer (timeDeviationAnswer s m 0) ≡ givenDot TooFew
   time-too-few = ap dotAnswer (time-deviation-refused s m 0 some-refusal ∙ ap noDeviation count-nought) ∙ too-few-dot (noDeviation (refused 1 0)) refl

@@ -13,8 +13,8 @@ use lib.Ieee.Fits.{up-pos, down-pos, and-l, and-r}
 use lib.Ieee.Exact.{HasValue, round-exact}
 use lib.Ieee.Scale.{round-same}
 use lib.Ieee.Positive.{num, den, positive, le→cross}
-use Rattle.plot.specs.Drawn.{plusZero, dropped, kept, drawnNumber}
-use Rattle.plot.proofs.Grid.{below-or-from, digits-at-most, kept-digits, power-parts}
+use Rattle.plot.specs.Drawn.{plusZero, drawnNumber}
+use Rattle.plot.proofs.Grid.{dropped, kept, below-or-from, digits-at-most, kept-digits, power-parts}
 
 -- ---- the doubles that the code writes out
 
@@ -61,7 +61,7 @@ whole-rounded n = refl
 -- what draw computes from the digits that are kept
 pub quotient-drawn : (r : ℕ) (n : ℕ) (x : Float) → r < 2 ^ 64 → n ≡ kept r → x ≡ ofInt binary64 (pos n)
     → div binary64 x (ofBits binary64 0x4130_0000_0000_0000) ≡ drawnNumber r
-unfolding drawnNumber
+unfolding drawnNumber kept dropped
 quotient-drawn r n x word digits nearest =
     rw (nearest, digits, whole-rounded, scale-written) (over-power binary64 (round binary64 false (kept r) 1) (kept r) 20 (kept-exact r 0 word (lit≤ tt)))
 

@@ -13,9 +13,9 @@ use lib.Ieee.Fits.{down-pos, round-fits}
 use lib.Ieee.Exact.{HasValue}
 use lib.Ieee.Order.{le-of-values, round-mono}
 use lib.Ieee.Positive.{positive, positive-of-value, between}
-use Rattle.plot.specs.Drawn.{plusZero, NotAbove, GreatestDouble, kept, drawnNumber, drawnRefusal, drawnAnswer}
+use Rattle.plot.specs.Drawn.{plusZero, NotAbove, GreatestDouble, drawnNumber, drawnRefusal, drawnAnswer}
 use Rattle.plot.specs.declared.drawn.DrawnAnswer.{DrawnAnswer}
-use Rattle.plot.proofs.Grid.{kept-not-above, kept-above-nought, kept-in-order, none-above-scaled}
+use Rattle.plot.proofs.Grid.{dropped, kept, kept-not-above, kept-above-nought, kept-in-order, none-above-scaled}
 use Rattle.plot.proofs.Doubles.{kept-exact, digits-below, neither-less-same, minus-not-above, minus-infinity-not-above}
 
 -- ---- no double lies between
@@ -49,14 +49,14 @@ module _ (r : ℕ) (x : Float) (least : 1 ≤ r) (value : HasValue x false (kept
 module _ {r : ℕ} (least : 1 ≤ r) (most : r ≤ 2 ^ 63) where
   -- its exact value: r with all but its top 53 binary digits cleared, over 2^20
   pub drawn-value : HasValue (drawnNumber r) false (kept r) (2 ^ 20)
-  unfolding drawnNumber
+  unfolding drawnNumber kept dropped
   drawn-value = kept-exact r 20 (omega arith) (lit≤ tt)
 
   pub drawn-above-nought : T (positive (drawnNumber r))
   drawn-above-nought = above-nought r (drawnNumber r) least drawn-value
 
   drawn-double : T (fits binary64 (drawnNumber r))
-  unfolding drawnNumber
+  unfolding drawnNumber kept dropped
   drawn-double = round-fits binary64 false (kept r) (2 ^ 20)
 
   -- a drawn number is the greatest double not above r / 2^20
@@ -85,7 +85,7 @@ module _ {r : ℕ} (least : 1 ≤ r) (most : r ≤ 2 ^ 63) where
 
 -- the order is kept
 pub drawn-in-order : {r s : ℕ} → r ≤ s → T (le (drawnNumber r) (drawnNumber s))
-unfolding drawnNumber
+unfolding drawnNumber kept dropped
 drawn-in-order {r} {s} order = round-mono binary64 (kept r) (2 ^ 20) (kept s) (2 ^ 20) (pow-pos 20) (pow-pos 20) (mul-le-mul-right (2 ^ 20) (kept-in-order order))
 
 -- ---- the entry

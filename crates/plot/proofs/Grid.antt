@@ -11,7 +11,6 @@ use lib.Count.{leadingZeros, leading-unique}
 use lib.Ieee.{size}
 use lib.Ieee.Digits.{size-lt, size-reaches, size-le}
 use lib.Ieee.Fits.{kept-lt}
-use Rattle.plot.specs.Drawn.{dropped, kept}
 
 pub below-or-from : (a b : ℕ) → (a < b) ⊎ (b ≤ a)
 below-or-from a b = by-test (ltb a b) (ltb→lt a b) (nltb→le a b)
@@ -21,6 +20,14 @@ below-or-from a b = by-test (ltb a b) (ltb→lt a b) (nltb→le a b)
     by-test false below from = inr (from tt)
 
 -- ---- how many digits are dropped
+
+-- how many of r's lower binary digits a double leaves out
+unfoldable pub dropped : ℕ → ℕ
+dropped r = size r - 53
+
+-- r with those digits cleared
+unfoldable pub kept : ℕ → ℕ
+kept r = r / 2 ^ dropped r * 2 ^ dropped r
 
 -- a number of d digits is at least half of 2^d
 half-reached : (r d : ℕ) → size r ≡ d → 2 ^ d ≤ 2 * r + 1

@@ -3,7 +3,6 @@ use mathlib.Core.Bool.{cond}
 use Prim.Native.Nat.{ℕ}
 use lib.Dec.{eqb}
 use lib.Ieee.{Float}
-use Rattle.variances.specs.Answers.{allanDeviationAnswer, timeDeviationAnswer}
 use Rattle.variances.specs.declared.DeviationAnswer.{DeviationAnswer}
 use Rattle.plot.specs.Drawn.{plusZero, drawnNumber}
 use Rattle.plot.specs.declared.dots.Dot.{Dot}
@@ -21,19 +20,9 @@ dotValue (Drawn v) = v
 dotValue Nought = plusZero
 dotValue TooFew = plusZero
 
--- r = 0 gives nought
-unfoldable pub dotOf : ℕ → Dot
-dotOf r = cond (eqb r 0) Nought (Drawn (drawnNumber r))
-
--- a dot's input is the deviation entry's: count 0, the only 1 there, gives too few; other refusals stand, with the dot nought
+-- a dot's input is the deviation entry's: r = 0 gives nought; count 0, the only 1 there, gives too few; other refusals stand, with the dot nought
 unfoldable pub dotAnswer : DeviationAnswer → DotAnswer
 dotAnswer d =
-    cond (eqb (d .number) 0) (record { number = 0; place = 0; dot = dotOf (d .deviation) })
+    cond (eqb (d .number) 0) (record { number = 0; place = 0; dot = cond (eqb (d .deviation) 0) Nought (Drawn (drawnNumber (d .deviation))) })
     (cond (eqb (d .number) 1) (record { number = 0; place = 0; dot = TooFew })
     (record { number = d .number; place = d .place; dot = Nought }))
-
-unfoldable pub allanDotAnswer : ℕ → ℕ → ℕ → DotAnswer
-allanDotAnswer a m k = dotAnswer (allanDeviationAnswer a m k)
-
-unfoldable pub timeDotAnswer : ℕ → ℕ → ℕ → DotAnswer
-timeDotAnswer b m c = dotAnswer (timeDeviationAnswer b m c)

@@ -27,19 +27,11 @@ pub record GreatestDouble (r : ℕ) (x : Float) : Type 0 where
   pub not-above : NotAbove x r (2 ^ 20)
   pub greatest : (y : Float) → T (fits binary64 y) → NotAbove y r (2 ^ 20) → T (le y x)
 
--- ---- how it is built: from the top 53 bits of r
+-- ---- how it is built
 
--- how many of r's lower binary digits a double leaves out
-unfoldable pub dropped : ℕ → ℕ
-dropped r = size r - 53
-
--- r with those digits cleared
-unfoldable pub kept : ℕ → ℕ
-kept r = r / 2 ^ dropped r * 2 ^ dropped r
-
--- the double whose exact value is that number over 2^20
+-- the double whose exact value is r over 2^20, r with all but its top 53 binary digits cleared
 unfoldable pub drawnNumber : ℕ → Float
-drawnNumber r = round binary64 false (kept r) (2 ^ 20)
+drawnNumber r = round binary64 false (r / 2 ^ (size r - 53) * 2 ^ (size r - 53)) (2 ^ 20)
 
 -- ---- the entry: r from 1 to 2^63; any other is refused 3
 unfoldable pub drawnRefusal : ℕ → Refusal
@@ -47,6 +39,5 @@ drawnRefusal r = refusedIf (not (leb 1 r && leb r (2 ^ 63))) 3 0
 
 unfoldable pub drawnAnswer : ℕ → DrawnAnswer
 drawnAnswer r =
-    cond (eqb (drawnRefusal r .number) 0)
-    (record { number = 0; place = 0; value = drawnNumber r })
+    cond (eqb (drawnRefusal r .number) 0) (record { number = 0; place = 0; value = drawnNumber r })
     (record { number = drawnRefusal r .number; place = drawnRefusal r .place; value = plusZero })

@@ -5,7 +5,8 @@ use wide::Wide;
 ghost use mathlib.Core.Path.{_≡_};
 ghost use Prim.Native.Nat.{_≤_, _^_};
 ghost use Rattle.wide.specs.Wide.{value};
-ghost use Rattle.plot.specs.Dots.{dotAnswer, allanDotAnswer, timeDotAnswer};
+ghost use Rattle.variances.specs.Answers.{allanDeviationAnswer, timeDeviationAnswer};
+ghost use Rattle.plot.specs.Dots.{dotAnswer};
 
 // What stands at a place of the plot.
 pub enum Dot {
@@ -23,14 +24,14 @@ pub struct DotAnswer {
 
 // The dot of an Allan deviation. Refuses 5, 2, 3; a count of 0 is too few.
 pub fn allan_dot(sum: Wide, m: u64, count: u64) -> DotAnswer
-    ensures { λ r. ⌜ r ≡ allanDotAnswer (value sum) m count ⌝ }
+    ensures { λ r. ⌜ r ≡ dotAnswer (allanDeviationAnswer (value sum) m count) ⌝ }
 {
     dot_of(variances::allan_deviation(sum, m, count))
 }
 
 // The dot of a time deviation. Refuses 5, 2, 3; a count of 0 is too few.
 pub fn time_dot(sum: Wide, m: u64, count: u64) -> DotAnswer
-    ensures { λ r. ⌜ r ≡ timeDotAnswer (value sum) m count ⌝ }
+    ensures { λ r. ⌜ r ≡ dotAnswer (timeDeviationAnswer (value sum) m count) ⌝ }
 {
     dot_of(variances::time_deviation(sum, m, count))
 }

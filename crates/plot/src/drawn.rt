@@ -1,7 +1,8 @@
 // Drawn numbers: doubles built from the top 53 bits of a whole number.
 ghost use mathlib.Core.Path.{_≡_};
-ghost use Prim.Native.Nat.{_≤_, _^_};
-ghost use Rattle.plot.specs.Drawn.{plusZero, kept, drawnNumber, drawnAnswer};
+ghost use Prim.Native.Nat.{_-_, _*_, _/_, _≤_, _^_};
+ghost use lib.Ieee.{size};
+ghost use Rattle.plot.specs.Drawn.{plusZero, drawnNumber, drawnAnswer};
 
 // A double.
 #[repr(C)]
@@ -38,7 +39,7 @@ pub(crate) fn draw(r: u64) -> f64
 
 // r with all but its top 53 binary digits cleared.
 fn top_digits(r: u64) -> u64
-    ensures { λ n. ⌜ n ≡ kept r ⌝ }
+    ensures { λ n. ⌜ n ≡ r / 2 ^ (size r - 53) * 2 ^ (size r - 53) ⌝ }
 {
     let zeros = u64::leading_zeros(r);
     if zeros < 11 {

@@ -21,7 +21,7 @@ const VARIANCE: u64 = 32;
 // The deviation as it is printed, in tenths of 10^-6.
 const DEVIATION: u64 = 56;
 
-pub fn figures() {
+pub(crate) fn figures() {
     let values = VALUES;
     let mut phases = [0i64; 9];
     let answer = frequency::phase_from_frequency(&values, &mut phases);

@@ -17,7 +17,7 @@ const RATIO: u64 = 77;
 
 const HALF: u64 = 8;
 
-pub fn figures() {
+pub(crate) fn figures() {
     let answer = noise::bars::bars(UNIT, Noise::FlickerFrequency, INTERVALS);
     if answer.number != 0 {
         text(b"bar ");

@@ -2,36 +2,36 @@
 use libc::STDOUT_FILENO;
 
 // Bytes as they stand.
-pub fn text(bytes: &[u8]) {
+pub(crate) fn text(bytes: &[u8]) {
     io::write_all(STDOUT_FILENO, bytes);
 }
 
 // A number in decimal digits.
-pub fn number(n: u64) {
+pub(crate) fn number(n: u64) {
     io::print_decimal(STDOUT_FILENO, n);
 }
 
 // A number of tenths.
-pub fn tenths(n: u64) {
+pub(crate) fn tenths(n: u64) {
     number(n / 10);
     text(b".");
     number(n % 10);
 }
 
 // A number of hundredths.
-pub fn hundredths(n: u64) {
+pub(crate) fn hundredths(n: u64) {
     tenths(n / 10);
     number(n % 10);
 }
 
 // A number of thousandths.
-pub fn thousandths(n: u64) {
+pub(crate) fn thousandths(n: u64) {
     hundredths(n / 10);
     number(n % 10);
 }
 
 // Whether two figures agree, at the line's end.
-pub fn verdict(ours: u64, printed: u64) {
+pub(crate) fn verdict(ours: u64, printed: u64) {
     if ours == printed {
         text(b": agrees\n");
         return;
@@ -40,7 +40,7 @@ pub fn verdict(ours: u64, printed: u64) {
 }
 
 // A refusal's number and place, at the line's end.
-pub fn refusal(by: u64, place: u64) {
+pub(crate) fn refusal(by: u64, place: u64) {
     text(b"refused ");
     number(by);
     text(b" at ");

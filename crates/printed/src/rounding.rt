@@ -2,7 +2,7 @@
 ghost use Prim.Native.Nat.{_≤_};
 
 // n / d to the nearest whole number, a half up.
-pub fn rounded(n: u64, d: u64) -> u64
+pub(crate) fn rounded(n: u64, d: u64) -> u64
     requires { ⌜ 1 ≤ d ⌝ }
 {
     let whole = n / d;

@@ -32,6 +32,10 @@ asPart a = record { number = a .number; sum = a .sum; count = a .count }
 abbrev pub noSums : Refusal → FloatSums
 noSums r = record { number = r .number; place = r .place; allan = noPart; modified = noPart }
 
+-- the lent buffer as it is left
+abbrev pub floatBuffer : ℕ → List Float → List ℤ → List ℤ
+floatBuffer m xs buffer = bufferLeft (floatRefusal m xs (length buffer)) (samplesOf xs) buffer
+
 module _ (m : ℕ) (xs : List Float) (room : ℕ) where
   -- ---- the parts of an answer that is not refused
 

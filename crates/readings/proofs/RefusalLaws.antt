@@ -20,7 +20,7 @@ use Rattle.record.specs.declared.Refusal.{Refusal}
 use Rattle.record.proofs.RangeLaws.{bounded-sample}
 use Rattle.record.proofs.RefusalLaws.{Sized, Sound, refusal-stands, none-gives-way, first-refuses-nothing, rest-refuses-nothing, test-fails, unrefused-sized, in-range-bounded}
 use Rattle.sums.specs.Answers.{allanDemand}
-use Rattle.readings.specs.Readings.{readingNumber, sampleOf, samplesOf, firstBad, readingRefusal}
+use Rattle.readings.specs.Readings.{readingNumber, sampleOf, samplesOf, readingRefusal}
 use Rattle.readings.specs.Answers.{floatRefusal}
 use Rattle.readings.proofs.FloatTests.{sample-bounded, bounded-fits}
 
@@ -31,16 +31,16 @@ isSample x = eqb (readingNumber x) 0
 
 module _ (xs : List Float) where
   pub no-sample-at : (i : ℕ) → i < length xs → firstFailing isSample xs ≡ i → readingRefusal xs ≡ refused (readingNumber (getD xs i nan)) i
-  unfolding readingRefusal firstBad
+  unfolding readingRefusal
   no-sample-at i h e = simp (e, lt-ltb i (length xs) h)
 
   pub all-samples : firstFailing isSample xs ≡ length xs → readingRefusal xs ≡ none
-  unfolding readingRefusal firstBad
+  unfolding readingRefusal
   all-samples e = simp (e, le-ltb (length xs) (length xs) (omega arith))
 
   -- a reading that is refused has a number of its own
   pub unrefused-all : readingRefusal xs .number ≡ 0 → firstFailing isSample xs ≡ length xs
-  unfolding readingRefusal firstBad
+  unfolding readingRefusal
   unrefused-all e = by-place (ltb (firstFailing isSample xs) (length xs)) refl e
     where
       first : ℕ

@@ -31,13 +31,11 @@ pub record Exactly (x : Float) (z : ℤ) : Type 0 where
   pub value : HasValue x sign (natAbs z) 1
   pub signed : z ≡ cond sign (negℤ (pos (natAbs z))) (pos (natAbs z))
 
+-- the samples of readings
 unfoldable pub samplesOf : List Float → List ℤ
 samplesOf xs = map sampleOf xs
 
--- the first reading that is no sample; the number of readings where every one is
-unfoldable pub firstBad : List Float → ℕ
-firstBad xs = firstFailing (λ x. eqb (readingNumber x) 0) xs
-
--- 3 or 4 at the lowest index
+-- 3 or 4 at the first reading that is no sample
 unfoldable pub readingRefusal : List Float → Refusal
-readingRefusal xs = refusedIf (ltb (firstBad xs) (length xs)) (readingNumber (getD xs (firstBad xs) nan)) (firstBad xs)
+readingRefusal xs =
+    let first : ℕ = firstFailing (λ x. eqb (readingNumber x) 0) xs in refusedIf (ltb first (length xs)) (readingNumber (getD xs first nan)) first

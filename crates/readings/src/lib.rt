@@ -9,9 +9,10 @@ ghost use Prim.Native.Nat.{_≤_};
 ghost use lib.ListN.{length};
 ghost use Rattle.laws.specs.Lists.{written};
 ghost use Rattle.record.specs.Refusals.{none};
+ghost use Rattle.record.specs.Answers.{bufferLeft};
 ghost use Rattle.sums.specs.Answers.{noPart};
 ghost use Rattle.readings.specs.Readings.{samplesOf, readingRefusal};
-ghost use Rattle.readings.specs.Answers.{floatRefusal, floatAnswer, floatBuffer};
+ghost use Rattle.readings.specs.Answers.{floatRefusal, floatAnswer};
 
 // The Allan sum, and the modified sum with its own number where it is not due.
 #[repr(C)]
@@ -25,7 +26,8 @@ pub struct FloatSums {
 // Writes the samples of the readings to the front of the buffer, and gives their sums at factor m. Refuses 5, 2, 1, 6, then 3 or 4 at the lowest
 // index.
 pub fn float_sums(readings: &[f64], m: u64, buffer: &mut [i64]) -> FloatSums
-    ensures { λ r. ⌜ (r ≡ floatAnswer m (now (readings .entry)) (length (now (buffer .entry)))) × (now (buffer .exit) ≡ floatBuffer m (now (readings .entry)) (now (buffer .entry))) ⌝ }
+    ensures { λ r. ⌜ r ≡ floatAnswer m (now (readings .entry)) (length (now (buffer .entry))) ⌝ }
+    ensures { λ r. ⌜ now (buffer .exit) ≡ bufferLeft (floatRefusal m (now (readings .entry)) (length (now (buffer .entry)))) (samplesOf (now (readings .entry))) (now (buffer .entry)) ⌝ }
 {
     let refusal = float_refusal(readings, m, buffer.len());
     if refusal.number != 0 {

@@ -7,16 +7,10 @@ use Rattle.laws.specs.Lists.{written}
 use Rattle.record.specs.declared.Refusal.{Refusal}
 use Rattle.record.specs.declared.CountAnswer.{CountAnswer}
 
--- a refusal and nought
-abbrev pub refusedCount : ℕ → ℕ → CountAnswer
-refusedCount number place = record { number = number; place = place; count = 0 }
-
 -- how many entries were written, or the refusal and nought
 unfoldable pub countAnswer : Refusal → ℕ → CountAnswer
 countAnswer r n =
-    cond (eqb (r .number) 0)
-    (record { number = 0; place = 0; count = n })
-    (refusedCount (r .number) (r .place))
+    cond (eqb (r .number) 0) (record { number = 0; place = 0; count = n }) (record { number = r .number; place = r .place; count = 0 })
 
 -- the lent buffer: the output at its front and the entries past it unchanged, or all unchanged where the call is refused
 unfoldable pub bufferLeft : {A : Type 0} → Refusal → List A → List A → List A

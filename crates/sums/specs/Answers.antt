@@ -22,16 +22,12 @@ modifiedDemand = record { largest = 10922; each = 3; besides = 0 }
 -- a sum with its count, or the refusal and noughts
 unfoldable pub sumAnswer : Refusal → ℕ → ℕ → SumAnswer
 sumAnswer r s count =
-    cond (eqb (r .number) 0)
-    (record { number = 0; place = 0; sum = halves s; count = count })
+    cond (eqb (r .number) 0) (record { number = 0; place = 0; sum = halves s; count = count })
     (record { number = r .number; place = r .place; sum = halves 0; count = 0 })
 
 -- a sum as a part of an answer: with its count, or 1 and noughts where it is not due
 unfoldable pub partOf : Bool → ℕ → ℕ → Part
-partOf due s count =
-    cond due
-    (record { number = 0; sum = halves s; count = count })
-    (record { number = 1; sum = halves 0; count = 0 })
+partOf due s count = cond due (record { number = 0; sum = halves s; count = count }) (record { number = 1; sum = halves 0; count = 0 })
 
 -- a part of an answer that is refused as a whole: noughts
 unfoldable pub noPart : Part

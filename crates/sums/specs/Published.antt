@@ -36,10 +36,6 @@ modifiedCount m xs = length xs + 1 - 3 * m
 unfoldable pub modifiedSum : ℕ → List ℤ → ℕ
 modifiedSum m xs = sum (modifiedCount m xs) (λ j. square (windowSum m xs j))
 
--- the modified variance is B / (2 m^4 C)
-unfoldable pub modifiedDenominator : ℕ → ℕ → ℕ
-modifiedDenominator m c = 2 * (m * m * m * m) * c
-
 -- the time variance, m^2/3 times the modified variance, is B / (6 m^2 C)
 unfoldable pub timeDenominator : ℕ → ℕ → ℕ
 timeDenominator m c = 6 * (m * m) * c

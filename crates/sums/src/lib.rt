@@ -11,14 +11,14 @@ ghost use Rattle.sums.specs.Answers.{allanSumAnswer, modifiedSumAnswer};
 
 // What the Allan sum asks of a record: N at least 2m + 1.
 pub const ALLAN: Demand = Demand {
-    largest: 10922,
+    largest: record::LARGEST_FACTOR,
     each: 2,
     besides: 1,
 };
 
 // What the modified sum asks of a record: N at least 3m.
 pub const MODIFIED: Demand = Demand {
-    largest: 10922,
+    largest: record::LARGEST_FACTOR,
     each: 3,
     besides: 0,
 };

@@ -6,16 +6,16 @@ use native.Mathlib.Omega.{arith}
 use lib.Dec.{ltb}
 use Rattle.laws.proofs.Tests.{choice-true, choice-false}
 use Rattle.wide.specs.Wide.{halves}
-use Rattle.record.specs.Refusals.{none, refused, refusedIf}
+use Rattle.record.specs.Refusals.{none, refused, refusedIf, _then_}
 use Rattle.record.specs.declared.Refusal.{Refusal}
 use Rattle.record.proofs.RefusalLaws.{refusal-stands, none-gives-way}
 use Rattle.sums.specs.Published.{allanDenominator, timeDenominator}
-use Rattle.variances.specs.Fractions.{Fraction, lowestTerms}
 use Rattle.variances.specs.Deviations.{deviation}
-use Rattle.variances.specs.Answers.{figureRefusal, fractionAnswer, allanFractionAnswer, timeFractionAnswer, deviationRefusal, deviationAnswer, allanDeviationAnswer, timeDeviationAnswer}
+use Rattle.variances.specs.Answers.{figureRefusal, fractionAnswer, allanFractionAnswer, timeFractionAnswer, deviationAnswer, allanDeviationAnswer, timeDeviationAnswer}
 use Rattle.variances.specs.declared.FractionAnswer.{FractionAnswer}
 use Rattle.variances.specs.declared.DeviationAnswer.{DeviationAnswer}
 use Rattle.variances.proofs.FigureLaws.{Allowed, allowed-none}
+use Rattle.variances.proofs.FractionLaws.{Fraction, lowestTerms}
 
 -- ---- what is given, and what stands beside a refusal
 
@@ -33,12 +33,12 @@ noDeviation refusal = record { number = refusal .number; place = refusal .place;
 
 -- ---- a fraction
 
-module _ (r : Refusal) (f : Fraction) where
-  pub fraction-refused : (r .number ≡ 0 → ⊥) → fractionAnswer r f ≡ noFraction r
+module _ (r : Refusal) (n d : ℕ) where
+  pub fraction-refused : (r .number ≡ 0 → ⊥) → fractionAnswer r n d ≡ noFraction r
   unfolding fractionAnswer
   fraction-refused some = choice-false _ _ (ne-eqb (r .number) 0 some)
 
-  pub fraction-given : r .number ≡ 0 → fractionAnswer r f ≡ givenFraction f
+  pub fraction-given : r .number ≡ 0 → fractionAnswer r n d ≡ givenFraction (lowestTerms n d)
   unfolding fractionAnswer
   fraction-given nothing = choice-true _ _ (eq-eqb (r .number) 0 nothing)
 
@@ -47,16 +47,16 @@ module _ (s m count : ℕ) where
   no-number : Allowed s m count → figureRefusal s m count .number ≡ 0
   no-number allowed = ap (λ (r : Refusal). r .number) (allowed-none s m count allowed)
 
-  pub fraction-allowed : (f : Fraction) → Allowed s m count → fractionAnswer (figureRefusal s m count) f ≡ fractionAnswer none f
-  fraction-allowed f allowed = ap (λ (r : Refusal). fractionAnswer r f) (allowed-none s m count allowed)
+  pub fraction-allowed : (n d : ℕ) → Allowed s m count → fractionAnswer (figureRefusal s m count) n d ≡ fractionAnswer none n d
+  fraction-allowed n d allowed = ap (λ (r : Refusal). fractionAnswer r n d) (allowed-none s m count allowed)
 
   pub allan-fraction-given : Allowed s m count → allanFractionAnswer s m count ≡ givenFraction (lowestTerms s (allanDenominator m count))
   unfolding allanFractionAnswer
-  allan-fraction-given allowed = fraction-given _ _ (no-number allowed)
+  allan-fraction-given allowed = fraction-given _ _ _ (no-number allowed)
 
   pub time-fraction-given : Allowed s m count → timeFractionAnswer s m count ≡ givenFraction (lowestTerms s (timeDenominator m count))
   unfolding timeFractionAnswer
-  time-fraction-given allowed = fraction-given _ _ (no-number allowed)
+  time-fraction-given allowed = fraction-given _ _ _ (no-number allowed)
 
 -- ---- a deviation
 
@@ -80,13 +80,15 @@ module _ (r : ℕ) where
   pub not-above-given : r ≤ 2 ^ 62 → deviationAnswer largeRefusal r ≡ givenDeviation r
   not-above-given most = rw (le-ltb (2 ^ 62) r most) (deviation-given none r refl)
 
+-- what a deviation is refused for
+abbrev pub deviationRefusal : ℕ → ℕ → ℕ → ℕ → Refusal
+deviationRefusal s m count r = figureRefusal s m count then largeRefusal r
+
 module _ (s m count r : ℕ) where
   pub figure-refused : (figureRefusal s m count .number ≡ 0 → ⊥) → deviationAnswer (deviationRefusal s m count r) r ≡ noDeviation (figureRefusal s m count)
-  unfolding deviationRefusal
   figure-refused some = ap (λ (t : Refusal). deviationAnswer t r) (refusal-stands (figureRefusal s m count) (largeRefusal r) some) ∙ deviation-refused _ r some
 
   pub figure-allowed : Allowed s m count → deviationAnswer (deviationRefusal s m count r) r ≡ deviationAnswer (largeRefusal r) r
-  unfolding deviationRefusal
   figure-allowed allowed = ap (λ (t : Refusal). deviationAnswer t r) (none-gives-way (figureRefusal s m count) (largeRefusal r) (no-number s m count allowed))
 
 module _ (s m count : ℕ) where

@@ -14,8 +14,8 @@ use Rattle.record.proofs.RefusalLaws.{none-sound, Sound}
 use Rattle.sums.specs.Published.{allanSum, allanCount, allanDenominator, modifiedSum, modifiedCount, timeDenominator}
 use Rattle.variances.specs.Deviations.{within, deviation}
 use Rattle.sums.specs.Answers.{allanDemand, modifiedDemand}
-use Rattle.variances.specs.Answers.{deviationRefusal}
 use Rattle.sums.proofs.PublishedLaws.{allan-within, allan-sum-below, modified-within, modified-sum-below}
+use Rattle.variances.proofs.AnswerLaws.{deviationRefusal}
 use Rattle.variances.proofs.DeviationLaws.{deviation-is-greatest}
 use Rattle.variances.proofs.FigureLaws.{Allowed, allowed-none, denominator-above-nought}
 
@@ -34,7 +34,6 @@ module _ (s m count d : ℕ) (allowed : Allowed s m count) (some : 0 < d) (small
   small-deviation = greatest-within s d some small (deviation s d) (deviation-is-greatest s d some (allowed .sum-below))
 
   small-deviation-unrefused : deviationRefusal s m count (deviation s d) ≡ none
-  unfolding deviationRefusal
   small-deviation-unrefused = simp (allowed-none s m count allowed, le-ltb (2 ^ 62) (deviation s d) small-deviation)
 
 -- ---- the Allan variance: A is at most K * 2^84
@@ -70,7 +69,7 @@ module _ (m : ℕ) (xs : List ℤ) (unrefused : recordRefusal allanDemand m xs �
 
   pub allan-deviation-unrefused :
       deviationRefusal (allanSum m xs) m (allanCount m xs) (deviation (allanSum m xs) (allanDenominator m (allanCount m xs))) ≡ none
-  allan-deviation-unrefused = small-deviation-unrefused _ _ _ _ allan-allowed allan-denominator-above-nought allan-variance-small
+  allan-deviation-unrefused = small-deviation-unrefused _ m (allanCount m xs) (allanDenominator m (allanCount m xs)) allan-allowed allan-denominator-above-nought allan-variance-small
 
 -- ---- the time variance: B is at most C * m^2 * 2^84
 module _ (m : ℕ) (xs : List ℤ) (unrefused : recordRefusal modifiedDemand m xs ≡ none) where
@@ -100,4 +99,4 @@ module _ (m : ℕ) (xs : List ℤ) (unrefused : recordRefusal modifiedDemand m x
 
   pub time-deviation-unrefused :
       deviationRefusal (modifiedSum m xs) m (modifiedCount m xs) (deviation (modifiedSum m xs) (timeDenominator m (modifiedCount m xs))) ≡ none
-  time-deviation-unrefused = small-deviation-unrefused _ _ _ _ modified-allowed time-denominator-above-nought time-variance-small
+  time-deviation-unrefused = small-deviation-unrefused _ m (modifiedCount m xs) (timeDenominator m (modifiedCount m xs)) modified-allowed time-denominator-above-nought time-variance-small

@@ -10,7 +10,7 @@ use Rattle.wide.specs.Wide.{halves, divisionOf}
 use Rattle.wide.specs.declared.Wide.{Wide}
 use Rattle.wide.specs.declared.Division.{Division}
 use Rattle.record.specs.Refusals.{none}
-use Rattle.variances.specs.Fractions.{euclid, gcd, lowestTerms}
+use Rattle.variances.specs.Fractions.{euclid, gcd}
 use Rattle.variances.specs.Answers.{fractionAnswer}
 use Rattle.variances.specs.declared.FractionAnswer.{FractionAnswer}
 
@@ -69,10 +69,17 @@ common-divides-gcd a b c p q = euclid-greatest (suc b) a b c (omega arith) p q
 pub gcd-above-nought : (a b : ℕ) → 0 < b → 0 < gcd a b
 gcd-above-nought a b h = pos-of-dvd-of-pos (gcd-divides-second a b) h
 
+-- n / d in lowest terms
+pub record Fraction : Type 0 where
+  pub numerator : ℕ
+  pub denominator : ℕ
+
+abbrev pub lowestTerms : ℕ → ℕ → Fraction
+lowestTerms n d = record { numerator = n / gcd n d; denominator = d / gcd n d }
+
 module _ (n d : ℕ) (h : 0 < d) where
   -- the value is unchanged
   pub lowest-same-value : lowestTerms n d .numerator * d ≡ n * lowestTerms n d .denominator
-  unfolding lowestTerms
   lowest-same-value =
       let g = gcd n d in
       let e : n / g * g ≡ n = div-mul-cancel g (gcd-divides-first n d) in
@@ -84,7 +91,6 @@ module _ (n d : ℕ) (h : 0 < d) where
 
   -- numerator and denominator have no common divisor but 1
   pub lowest-no-common : (c : ℕ) → c ∣ lowestTerms n d .numerator → c ∣ lowestTerms n d .denominator → c ≡ 1
-  unfolding lowestTerms
   lowest-no-common c p q =
       let g = gcd n d in
       let gp : 0 < g = gcd-above-nought n d h in
@@ -94,7 +100,6 @@ module _ (n d : ℕ) (h : 0 < d) where
 
 -- nought is 0/1
 pub lowest-of-nought : (d : ℕ) → 0 < d → (lowestTerms 0 d .numerator ≡ 0) × (lowestTerms 0 d .denominator ≡ 1)
-unfolding lowestTerms
 lowest-of-nought d h =
     let e : gcd 0 d ≡ d = dvd-antisymm (gcd-divides-second 0 d) (common-divides-gcd 0 d d (dvd-zero d) (dvd-refl d)) in
     (zero-div (gcd 0 d), rw e (div-self h))
@@ -119,8 +124,8 @@ module _ (n d : ℕ) (some : 0 < d) {first : Division} (first-is : first ≡ div
   abbrev reducedTo : Wide → ℕ → FractionAnswer
   reducedTo numerator denominator = record { number = 0; place = 0; numerator = numerator; denominator = denominator }
 
-  pub lowest-by-divisor : {reduced : Division} → reduced ≡ divisionOf n divisor → reducedTo (reduced .quotient) (d / divisor) ≡ fractionAnswer none (lowestTerms n d)
-  unfolding fractionAnswer lowestTerms
+  pub lowest-by-divisor : {reduced : Division} → reduced ≡ divisionOf n divisor → reducedTo (reduced .quotient) (d / divisor) ≡ fractionAnswer none n d
+  unfolding fractionAnswer
   lowest-by-divisor reduced-is =
       let numerator-is = ap (λ (v : Division). v .quotient) reduced-is ∙ quotient-given n divisor divisor-above-nought in
       ap (λ (w : Wide). reducedTo w (d / divisor)) numerator-is ∙ ap (λ (g : ℕ). reducedTo (halves (n / g)) (d / g)) divisor-is-gcd

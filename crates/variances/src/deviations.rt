@@ -8,10 +8,10 @@ ghost use mathlib.Core.Bool.{cond, false};
 ghost use Prim.Native.Nat.{_+_, _*_, _≤_, _<_, _^_};
 ghost use lib.Dec.{ltb};
 ghost use Rattle.wide.specs.Wide.{value};
-ghost use Rattle.record.specs.Refusals.{refusedIf};
+ghost use Rattle.record.specs.Refusals.{refusedIf, _then_};
 ghost use Rattle.variances.specs.Deviations.{within};
 ghost use Rattle.variances.specs.Deviations.{deviation as greatestWithin};
-ghost use Rattle.variances.specs.Answers.{deviationRefusal, deviationAnswer};
+ghost use Rattle.variances.specs.Answers.{figureRefusal, deviationAnswer};
 
 // A deviation is at most this many units of 2^-20 picoseconds: 2^62.
 const LARGEST_DEVIATION: u64 = 4611686018427387904;
@@ -19,7 +19,7 @@ const LARGEST_DEVIATION: u64 = 4611686018427387904;
 // The deviation of the variance sum / (scale m^2 count), or what is refused; the scale is 2 for Allan, 6 for time.
 pub(crate) fn of_variance(scale: u64, sum: Wide, m: u64, count: u64) -> DeviationAnswer
     requires { ⌜ (0 < scale) × (scale ≤ 6) ⌝ }
-    ensures { λ r. ⌜ r ≡ deviationAnswer (deviationRefusal (value sum) m count (greatestWithin (value sum) (scale * (m * m) * count))) (greatestWithin (value sum) (scale * (m * m) * count)) ⌝ }
+    ensures { λ r. ⌜ r ≡ deviationAnswer (figureRefusal (value sum) m count then refusedIf (ltb (2 ^ 62) (greatestWithin (value sum) (scale * (m * m) * count))) 3 0) (greatestWithin (value sum) (scale * (m * m) * count)) ⌝ }
 {
     let refusal = figure_refusal(sum, m, count);
     if refusal.number != 0 {

@@ -7,14 +7,13 @@ ghost use mathlib.Core.Path.{_≡_};
 ghost use Prim.Native.Nat.{_*_, _≤_, _<_};
 ghost use Rattle.wide.specs.Wide.{value, halves};
 ghost use Rattle.record.specs.Refusals.{none};
-ghost use Rattle.variances.specs.Fractions.{lowestTerms};
 ghost use Rattle.variances.specs.Fractions.{gcd as greatestDivisor};
 ghost use Rattle.variances.specs.Answers.{figureRefusal, fractionAnswer};
 
 // The variance sum / (scale m^2 count) in lowest terms, or what is refused; the scale is 2 for Allan, 6 for time.
 pub(crate) fn variance(scale: u64, sum: Wide, m: u64, count: u64) -> FractionAnswer
     requires { ⌜ (0 < scale) × (scale ≤ 6) ⌝ }
-    ensures { λ r. ⌜ r ≡ fractionAnswer (figureRefusal (value sum) m count) (lowestTerms (value sum) (scale * (m * m) * count)) ⌝ }
+    ensures { λ r. ⌜ r ≡ fractionAnswer (figureRefusal (value sum) m count) (value sum) (scale * (m * m) * count) ⌝ }
 {
     let refusal = figure_refusal(sum, m, count);
     if refusal.number != 0 {
@@ -26,7 +25,7 @@ pub(crate) fn variance(scale: u64, sum: Wide, m: u64, count: u64) -> FractionAns
 // sum / d in lowest terms.
 fn lowest(sum: Wide, d: u64) -> FractionAnswer
     requires { ⌜ 0 < d ⌝ }
-    ensures { λ r. ⌜ r ≡ fractionAnswer none (lowestTerms (value sum) d) ⌝ }
+    ensures { λ r. ⌜ r ≡ fractionAnswer none (value sum) d ⌝ }
 {
     let first = wide::divided(sum, d);
     let divisor = gcd(d, first.remainder);

@@ -12,7 +12,7 @@ pub(crate) fn figure_refusal(sum: Wide, m: u64, count: u64) -> Refusal
     if m < 1 {
         return refused(record::BAD_FACTOR);
     }
-    if 10922 < m {
+    if (record::LARGEST_FACTOR as u64) < m {
         return refused(record::BAD_FACTOR);
     }
     if count == 0 {

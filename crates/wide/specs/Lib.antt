@@ -1,2 +1,1 @@
 pub mod Wide
-pub mod ThreeWords

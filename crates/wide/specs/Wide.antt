@@ -21,8 +21,7 @@ wideSum a b = halves ((value a + value b) % 2 ^ 128)
 -- quotient and remainder; a divisor of nought divides nothing
 unfoldable pub divisionOf : ℕ → ℕ → Division
 divisionOf n d =
-    cond (eqb d 0)
-    (record { defined = false; quotient = halves 0; remainder = 0 })
+    cond (eqb d 0) (record { defined = false; quotient = halves 0; remainder = 0 })
     (record { defined = true; quotient = halves (n / d); remainder = n % d })
 
 -- the greatest r with r * r not above n, for n below 2^128

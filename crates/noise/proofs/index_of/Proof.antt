@@ -1,7 +1,8 @@
--- `noise::index_of` meets its contract: each arm is a line of the order.
+-- `noise::index_of` meets its contract: each arm is a row of the table.
 use borrow.Author.Needs.{needs}
 use mathlib.Core.Path.{sym, ap}
-use Rattle.noise.specs.NoiseOrder.{indexOf}
+use Rattle.noise.specs.Noise.{alphaOf}
+use Rattle.noise.proofs.NoiseLaws.{indexOf}
 use Rattle.noise.proofs.index_of.Statement.{statement}
 use Rattle.noise.proofs.index_of.Tie as tie
 
@@ -21,23 +22,23 @@ enum-told-5 : tie.Need-enum-told-5
 enum-told-5 c = search needs
 
 returns : tie.Need-returns
-unfolding indexOf
+unfolding alphaOf
 returns c = sym (ap indexOf (c .enum-told .given .1))
 
 returns-2 : tie.Need-returns-2
-unfolding indexOf
+unfolding alphaOf
 returns-2 c = sym (ap indexOf (c .enum-told2 .given .1))
 
 returns-3 : tie.Need-returns-3
-unfolding indexOf
+unfolding alphaOf
 returns-3 c = sym (ap indexOf (c .enum-told3 .given .1))
 
 returns-4 : tie.Need-returns-4
-unfolding indexOf
+unfolding alphaOf
 returns-4 c = sym (ap indexOf (c .enum-told4 .given .1))
 
 returns-5 : tie.Need-returns-5
-unfolding indexOf
+unfolding alphaOf
 returns-5 c = sym (ap indexOf (c .enum-told5 .given .1))
 
 pub index-of-spec : {M : Type 1} → statement M

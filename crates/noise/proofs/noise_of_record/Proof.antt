@@ -4,8 +4,8 @@ use mathlib.Core.Path.{sym, ap₂, _∙_}
 use native.Mathlib.Omega.{arith}
 use Rattle.record.proofs.RefusalLaws.{Sound}
 use Rattle.sums.proofs.AnswerLaws.{record-sound}
-use Rattle.noise.specs.Noise.{noiseDemand, typeAnswer}
-use Rattle.noise.proofs.NoiseLaws.{record-refused, record-given, sound-at-factor, sound-at-double}
+use Rattle.noise.specs.Noise.{typeAnswer}
+use Rattle.noise.proofs.NoiseLaws.{noiseDemand, record-refused, record-given, sound-at-factor, sound-at-double}
 use Rattle.noise.proofs.noise_of_record.Statement.{statement}
 use Rattle.noise.proofs.noise_of_record.Tie as tie
 

@@ -1,7 +1,7 @@
 -- `noise::noise_type` meets its contract.
 use borrow.Author.Needs.{needs}
-use mathlib.Core.Path.{sym, ap, _∙_}
-use Rattle.noise.proofs.NoiseLaws.{givenType, type-refused, type-given}
+use mathlib.Core.Path.{sym, _∙_}
+use Rattle.noise.proofs.NoiseLaws.{place-within, type-refused, type-given}
 use Rattle.noise.proofs.noise_type.Statement.{statement}
 use Rattle.noise.proofs.noise_type.Tie as tie
 
@@ -18,12 +18,12 @@ bound-of-requires : tie.Need-bound-of-requires
 bound-of-requires c κs = search needs
 
 type-at-requires : tie.Need-type-at-requires
-type-at-requires c κs = search needs
+type-at-requires c κs = place-within _ (c .bound-of .ensures)
 
 returns-2 : tie.Need-returns-2
 returns-2 c =
     let before = c .before .before in
-    ap givenType (c .type-at .ensures) ∙ sym (type-given _ _ (before .before .before .noise-refusal .ensures) (before .if1 .left) (c .before .bound-of .ensures))
+    type-given _ _ (before .before .before .noise-refusal .ensures) (before .if1 .left) (c .before .bound-of .ensures) (c .type-at .ensures)
 
 pub noise-type-spec : {M : Type 1} → statement M
 noise-type-spec =

@@ -4,7 +4,7 @@ use mathlib.Core.Path.{refl, sym, ap, _∙_}
 use native.Mathlib.Omega.{arith}
 use lib.ListN.{length}
 use Rattle.record.specs.declared.Refusal.{Refusal}
-use Rattle.phr.specs.Reading.{headerTests, rightLength}
+use Rattle.phr.specs.Reading.{headerTests}
 use Rattle.phr.proofs.ReadCases.{Readable, readable-none, unrefused-readable, sound-within}
 use Rattle.phr.proofs.AnswerCases.{read-refused, read-answered}
 use Rattle.phr.proofs.read_file.Statement.{statement}
@@ -28,7 +28,6 @@ count-of-requires c κs =
     omega (arith, readable-there c .sound, sound-within headerTests (s .args .bytes .now))
 
 read-values-requires : tie.Need-read-values-requires
-unfolding rightLength
 read-values-requires c κs =
     let r = readable-there (c .before .before) in
     omega (arith, r .whole, r .enough)

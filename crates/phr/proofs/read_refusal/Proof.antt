@@ -6,8 +6,8 @@ use native.Mathlib.Omega.{arith}
 use lib.ListN.{length}
 use Rattle.record.specs.Refusals.{refused}
 use Rattle.phr.specs.File.{mostValues}
-use Rattle.phr.specs.Reading.{headerTests, soundUpTo, kindOf, countOf, rightLength, firstOutside}
-use Rattle.phr.proofs.ReadCases.{sound-within, most-values-bounded, outside-is, header-wrong, too-many-values, file-too-short, file-too-long, no-room-for-values, value-outside, nothing-wrong}
+use Rattle.phr.specs.Reading.{headerTests, soundUpTo, kindOf, countOf}
+use Rattle.phr.proofs.ReadCases.{firstOutside, sound-within, most-values-bounded, outside-is, header-wrong, too-many-values, file-too-short, file-too-long, no-room-for-values, value-outside, nothing-wrong}
 use Rattle.phr.proofs.read_refusal.Statement.{statement}
 use Rattle.phr.proofs.read_refusal.Tie as tie
 
@@ -21,11 +21,10 @@ most-there c = sym (c .most-values .ensures ∙ ap mostValues (c .before .before
 few-there : (c : tie.Else2) → let bytes = c .before .before .before .before .before .before .before .args .bytes .now in countOf bytes ≤ mostValues (kindOf bytes)
 few-there c = omega (arith, most-there (c .before))
 
-right-there : (c : tie.After-count-of) → 8 + 8 * c .count-of .result ≡ rightLength (countOf (c .before .before .before .before .before .args .bytes .now))
-unfolding rightLength
+right-there : (c : tie.After-count-of) → 8 + 8 * c .count-of .result ≡ 8 + 8 * countOf (c .before .before .before .before .before .args .bytes .now)
 right-there c = ap (λ (n : ℕ). 8 + 8 * n) (c .count-of .ensures)
 
-whole-there : (c : tie.Else4) → let bytes = c .before .before .before .before .before .before .before .before .before .args .bytes .now in length bytes ≡ rightLength (countOf bytes)
+whole-there : (c : tie.Else4) → let bytes = c .before .before .before .before .before .before .before .before .before .args .bytes .now in length bytes ≡ 8 + 8 * countOf bytes
 whole-there c = omega (arith, right-there (c .before .before .before .before))
 
 outside-there : (c : tie.After-first-outside) → c .first-outside .result ≡ firstOutside (c .before .before .before .before .before .before .before .before .before .before .before .args .bytes .now)

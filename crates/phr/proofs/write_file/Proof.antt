@@ -4,7 +4,6 @@ use mathlib.Core.Path.{refl, sym, ap, _∙_}
 use native.Mathlib.Omega.{arith}
 use lib.ListN.{length}
 use Rattle.record.specs.declared.Refusal.{Refusal}
-use Rattle.phr.specs.Reading.{rightLength}
 use Rattle.phr.proofs.ReadCases.{most-values-bounded}
 use Rattle.phr.proofs.WriteCases.{Writable, writable-none, unrefused-writable}
 use Rattle.phr.proofs.HeaderLaws.{file-written}
@@ -25,14 +24,12 @@ returns c =
     call-refused _ _ _ (r .result .number) (r .result .place) (omega (arith, c .if1 .taken)) (sym (r .ensures)) refl
 
 write-header-requires : tie.Need-write-header-requires
-unfolding rightLength
 write-header-requires c κs =
     let w = writable-there (c .before) in
     let s = c .before .before .before .before in
     omega (arith, w .known, w .few, w .enough, most-values-bounded (s .args .kind))
 
 write-values-requires : tie.Need-write-values-requires
-unfolding rightLength
 write-values-requires c κs =
     let h = c .before .before .before in
     omega (arith, writable-there (h .before .before) .enough, h .write-header .kept .1 .1 .0)
@@ -47,7 +44,6 @@ same-length : tie.Need-same-length
 same-length c = search needs
 
 returns-2 : tie.Need-returns-2
-unfolding rightLength
 returns-2 c =
     let v = c .before .before in
     let h = v .before .before .before .before in

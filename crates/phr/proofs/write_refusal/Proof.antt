@@ -3,7 +3,6 @@ use borrow.Author.Needs.{needs}
 use mathlib.Core.Path.{sym, ap, _∙_}
 use native.Mathlib.Omega.{arith}
 use Rattle.record.specs.Refusals.{refused}
-use Rattle.phr.specs.Reading.{rightLength}
 use Rattle.phr.proofs.WriteCases.{no-such-kind, too-many-to-write, no-room-for-file, value-unfit, nothing-unfit}
 use Rattle.phr.proofs.write_refusal.Statement.{statement}
 use Rattle.phr.proofs.write_refusal.Tie as tie
@@ -35,7 +34,6 @@ refused-requires-3 : tie.Need-refused-requires-3
 refused-requires-3 c κs = search needs
 
 returns-3 : tie.Need-returns-3
-unfolding rightLength
 returns-3 c =
     let s = c .before .before .before .before .before in
     c .refused3 .ensures ∙ sym (no-room-for-file (s .args .kind) (s .args .values .now) _ (omega arith) (omega arith) (omega arith))
@@ -47,7 +45,6 @@ refused-requires-4 : tie.Need-refused-requires-4
 refused-requires-4 c κs = search needs
 
 returns-4 : tie.Need-returns-4
-unfolding rightLength
 returns-4 c =
     let s = c .before .before .before .before .before .before .before in
     let outside = c .before .before .first-unfit .ensures in
@@ -57,7 +54,6 @@ refused-requires-5 : tie.Need-refused-requires-5
 refused-requires-5 c κs = search needs
 
 returns-5 : tie.Need-returns-5
-unfolding rightLength
 returns-5 c =
     let s = c .before .before .before .before .before .before .before in
     c .refused5 .ensures ∙ sym (nothing-unfit (s .args .kind) (s .args .values .now) _ (omega arith) (omega arith) (omega arith) (omega arith))

@@ -20,7 +20,7 @@ returns c = bars-refused _ _ _ (c .before .before .before .bars-refusal .ensures
 kappa-requires : tie.Need-kappa-requires
 kappa-requires c κs = search needs
 
-barred : (c : tie.Else1) → let x = c .before .before .before .args in Barred (x .r) (x .m)
+barred : (c : tie.Else1) → let x = c .before .before .before .args in Barred (x .r) (x .intervals)
 barred c = nothing-refused (c .before .before .bars-refusal .ensures) (c .if1 .left)
 
 width-of-requires : tie.Need-width-of-requires
@@ -29,7 +29,7 @@ width-of-requires c κs = (barred (c .before) .most, omega (arith, c .kappa .ens
 half-of-requires : tie.Need-half-of-requires
 half-of-requires c κs = omega (arith, barred (c .before .before) .enough)
 
-half : (c : tie.After-half-of) → let x = c .before .before .before .before .before .before .args in c .half-of .result ≡ barHalf (x .r) (x .noise) (x .m)
+half : (c : tie.After-half-of) → let x = c .before .before .before .before .before .before .args in c .half-of .result ≡ barHalf (x .r) (x .noise) (x .intervals)
 half c = half-is _ _ _ (c .before .before .kappa .ensures) (c .before .width-of .ensures) (c .half-of .ensures)
 
 half-below : (c : tie.After-half-of) → let x = c .before .before .before .before .before .before .args in c .half-of .result ≤ x .r

@@ -6,9 +6,8 @@ use native.Mathlib.Omega.{arith}
 use lib.ListN.{drop}
 use Rattle.laws.specs.Lists.{firstFailing}
 use Rattle.phr.specs.File.{valueInRange}
-use Rattle.phr.specs.Reading.{valuesFrom}
 use Rattle.phr.proofs.RangeSearch.{value-passes, value-fails, no-value-fails}
-use Rattle.phr.proofs.ValueLaws.{values-from-length, values-from-inside, values-from-entry}
+use Rattle.phr.proofs.ValueLaws.{valuesFrom, values-from-length, values-from-inside, values-from-entry}
 use Rattle.phr.proofs.values.first_outside.Statement.{statement}
 use Rattle.phr.proofs.values.first_outside.Tie as tie
 

@@ -5,8 +5,7 @@ use native.Mathlib.Omega.{arith}
 use lib.IntN.{pos}
 use lib.ListN.{length, length-set}
 use Rattle.laws.proofs.ListLaws.{writtenSoFar, written-one-more, written-whole}
-use Rattle.phr.specs.Reading.{valuesFrom}
-use Rattle.phr.proofs.ValueLaws.{values-from-length, values-from-inside, values-from-entry}
+use Rattle.phr.proofs.ValueLaws.{valuesFrom, values-from-length, values-from-inside, values-from-entry}
 use Rattle.phr.proofs.values.read_values.Statement.{statement}
 use Rattle.phr.proofs.values.read_values.Tie as tie
 

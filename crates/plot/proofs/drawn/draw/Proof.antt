@@ -1,5 +1,6 @@
 -- `plot::drawn::draw` meets its contract.
 use borrow.Author.Needs.{needs}
+use Rattle.plot.proofs.Grid.{dropped, kept}
 use Rattle.plot.proofs.Doubles.{quotient-drawn}
 use Rattle.plot.proofs.drawn.draw.Statement.{statement}
 use Rattle.plot.proofs.drawn.draw.Tie as tie
@@ -11,6 +12,7 @@ nearest-u64-to-f64-requires : tie.Need-nearest-u64-to-f64-requires
 nearest-u64-to-f64-requires c κs = search needs
 
 returns : tie.Need-returns
+unfolding kept dropped
 returns c =
     let start = c .before .before in
     quotient-drawn (start .args .r) _ _ (start .fits .r .fits) (c .before .top-digits .ensures) (c .nearest-u64-to-f64 .ensures)

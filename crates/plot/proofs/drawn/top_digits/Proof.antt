@@ -1,7 +1,7 @@
 -- `plot::drawn::top_digits` meets its contract.
 use borrow.Author.Needs.{needs}
 use native.Mathlib.Omega.{arith}
-use Rattle.plot.proofs.Grid.{zeros-tell-dropped, kept-by-shifts, none-dropped}
+use Rattle.plot.proofs.Grid.{dropped, kept, zeros-tell-dropped, kept-by-shifts, none-dropped}
 use Rattle.plot.proofs.drawn.top_digits.Statement.{statement}
 use Rattle.plot.proofs.drawn.top_digits.Tie as tie
 
@@ -21,11 +21,13 @@ shl-result : tie.Need-shl-result
 shl-result c = search needs
 
 returns : tie.Need-returns
+unfolding kept dropped
 returns c =
     let start = c .before in
     kept-by-shifts (start .args .r) (start .fits .r .fits) _ (zeros-tell-dropped (start .args .r) (start .fits .r .fits))
 
 returns-2 : tie.Need-returns-2
+unfolding kept dropped
 returns-2 c =
     let start = c .before in
     none-dropped (start .args .r) (omega (arith, zeros-tell-dropped (start .args .r) (start .fits .r .fits)))

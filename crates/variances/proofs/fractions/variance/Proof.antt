@@ -16,7 +16,7 @@ refused-requires c κs = search needs
 returns : tie.Need-returns
 returns c =
     let refusal = c .before .before .before .figure-refusal .ensures in
-    c .refused .ensures ∙ ap noFraction refusal ∙ sym (fraction-refused _ _ (rw refusal at (c .before .if1 .taken)))
+    c .refused .ensures ∙ ap noFraction refusal ∙ sym (fraction-refused _ _ _ (rw refusal at (c .before .if1 .taken)))
 
 allowed : (c : tie.Else1) → let x = c .before .before .before .args in Allowed (value (x .sum)) (x .m) (x .count)
 allowed c = nothing-refused (c .before .before .figure-refusal .ensures) (c .if1 .left)
@@ -34,7 +34,7 @@ lowest-requires : tie.Need-lowest-requires
 lowest-requires c κs = denominator-above-nought (allowed c) _ (c .before .before .before .pre .0)
 
 returns-2 : tie.Need-returns-2
-returns-2 c = c .lowest .ensures ∙ sym (fraction-allowed _ _ _ _ (allowed (c .before)))
+returns-2 c = c .lowest .ensures ∙ sym (fraction-allowed _ _ _ _ _ (allowed (c .before)))
 
 pub variance-spec : {M : Type 1} → statement M
 variance-spec =

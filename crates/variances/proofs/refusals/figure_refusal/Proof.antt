@@ -12,6 +12,9 @@ refused-requires c κs = search needs
 returns : tie.Need-returns
 returns c = c .refused .ensures ∙ sym (factor-nought _ _ _ (omega arith))
 
+cast-if2 : tie.Need-cast-if2
+cast-if2 c = search needs
+
 refused-requires-2 : tie.Need-refused-requires-2
 refused-requires-2 c κs = search needs
 
@@ -50,6 +53,7 @@ figure-refusal-spec =
     (tie.spec
     refused-requires
     returns
+    cast-if2
     refused-requires-2
     returns-2
     refused-requires-3
