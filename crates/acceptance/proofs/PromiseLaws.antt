@@ -32,12 +32,12 @@ use Rattle.drift.proofs.Floors.{floored-at-most, one-more-above}
 use Rattle.sums.specs.Published.{allanSum, allanCount, modifiedSum, modifiedCount}
 use Rattle.sums.specs.Answers.{allanDemand, modifiedDemand, partOf, allanSumAnswer, modifiedSumAnswer}
 use Rattle.sums.proofs.AnswerLaws.{allan-sum-given, modified-sum-given}
-use Rattle.readings.specs.Readings.{readingNumber, samplesOf, readingRefusal}
+use Rattle.readings.specs.Readings.{readingNumber, readingRefusal}
 use Rattle.readings.specs.Answers.{floatRefusal, floatAnswer}
 use Rattle.readings.proofs.AnswerLaws.{floatBuffer}
 use Rattle.readings.specs.declared.FloatSums.{FloatSums}
 use Rattle.readings.proofs.ReadingLaws.{sample-exact}
-use Rattle.readings.proofs.RefusalLaws.{isSample, no-sample-at, all-samples, samples-length, sample-at, readings-decide, samples-taken}
+use Rattle.readings.proofs.RefusalLaws.{samplesOf, isSample, no-sample-at, all-samples, samples-length, sample-at, readings-decide, samples-taken}
 use Rattle.meter.specs.Answers.{publishedReport}
 use Rattle.phr.specs.File.{fileOf, Proper, IsFile, AreBytes}
 use Rattle.phr.specs.Reading.{readRefusal, readAnswer, kindOf, countOf, valuesOf}
