@@ -20,8 +20,7 @@ use Rattle.record.proofs.AnswerLaws.{past-unchanged}
 use Rattle.sums.specs.Published.{allanSum, allanCount, modifiedSum, modifiedCount}
 use Rattle.sums.specs.Answers.{sumAnswer, partOf, noPart}
 use Rattle.drift.specs.Drift.{driftRefusal, driftAnswer}
-use Rattle.readings.specs.Readings.{samplesOf}
-use Rattle.readings.proofs.RefusalLaws.{samples-length}
+use Rattle.readings.proofs.RefusalLaws.{samplesOf, samples-length}
 use Rattle.readings.specs.Answers.{floatRefusal, floatAnswer}
 use Rattle.readings.proofs.AnswerLaws.{floatBuffer}
 use Rattle.readings.specs.declared.FloatSums.{FloatSums}

@@ -41,11 +41,11 @@ use Rattle.variances.proofs.FractionLaws.{lowestTerms, lowest-same-value, lowes
 use Rattle.variances.proofs.DeviationLaws.{deviation-is-greatest}
 use Rattle.variances.proofs.AnswerLaws.{deviationRefusal, givenDeviation, largeRefusal, allan-fraction-given, time-fraction-given, allan-deviation-given, time-deviation-given}
 use Rattle.variances.proofs.Bounds.{allan-allowed, allan-deviation-within, modified-allowed, time-deviation-within}
-use Rattle.readings.specs.Readings.{samplesOf, Exactly}
+use Rattle.readings.specs.Readings.{Exactly}
 use Rattle.readings.specs.Answers.{floatRefusal, floatAnswer}
 use Rattle.readings.proofs.AnswerLaws.{floatBuffer}
 use Rattle.readings.proofs.ReadingLaws.{sample-exact}
-use Rattle.readings.proofs.RefusalLaws.{samples-length, sample-at, samples-taken, unrefused-sample, unrefused-readings, unrefused-size}
+use Rattle.readings.proofs.RefusalLaws.{samplesOf, samples-length, sample-at, samples-taken, unrefused-sample, unrefused-readings, unrefused-size}
 use Rattle.meter.proofs.Running.{publishedReport}
 use Rattle.phr.specs.File.{fileOf, Proper, IsFile, AreBytes}
 use Rattle.phr.specs.Reading.{readRefusal, readAnswer, valuesOf}

@@ -44,8 +44,7 @@ noiseRefusal r1 r2 = refusedIf (not (leb r1 (2 ^ 62) && leb r2 (2 ^ 62))) 3 0 th
 -- a type, or the refusal beside the first type of the table
 unfoldable pub noiseAnswer : Refusal → Noise → NoiseAnswer
 noiseAnswer r t =
-    cond (eqb (r .number) 0) (record { number = 0; place = 0; noise = t })
-    (record { number = r .number; place = r .place; noise = WhitePhase })
+    cond (eqb (r .number) 0) (record { number = 0; place = 0; noise = t }) (record { number = r .number; place = r .place; noise = WhitePhase })
 
 -- what an answer tells: the type's alpha; beside a refusal nought
 unfoldable pub toldAlpha : NoiseAnswer → ℤ

@@ -20,10 +20,9 @@ use Rattle.sums.specs.Answers.{allanDemand, modifiedDemand, allanSumAnswer, mod
 use Rattle.sums.specs.declared.Part.{Part}
 use Rattle.sums.specs.declared.SumAnswer.{SumAnswer}
 use Rattle.sums.proofs.AnswerLaws.{noSum, allan-sum-given, modified-sum-given, modified-sum-refused}
-use Rattle.readings.specs.Readings.{samplesOf}
 use Rattle.readings.specs.Answers.{floatRefusal, floatAnswer}
 use Rattle.readings.specs.declared.FloatSums.{FloatSums}
-use Rattle.readings.proofs.RefusalLaws.{samples-length, samples-sound}
+use Rattle.readings.proofs.RefusalLaws.{samplesOf, samples-length, samples-sound}
 
 -- a sum's answer without its place
 abbrev pub asPart : SumAnswer → Part

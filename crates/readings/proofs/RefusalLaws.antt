@@ -1,7 +1,7 @@
 -- The cases of the readings' refusal in their order, and what is known of readings that are not refused.
 use mathlib.Core.Path.{_≡_, refl, sym, ap, _∙_}
 use mathlib.Core.Bool.{Bool, true, false, true≢false}
-use mathlib.Core.List.{List}
+use mathlib.Core.List.{List, map}
 use Prim.Native.Nat.{ℕ, _+_, _≤_, _<_}
 use native.Mathlib.Omega.{arith}
 use borrow.Author.Tests.{ltb-true, ltb-false, lt-ltb, le-ltb, eq-eqb, eqb-true}
@@ -20,7 +20,7 @@ use Rattle.record.specs.declared.Refusal.{Refusal}
 use Rattle.record.proofs.RangeLaws.{bounded-sample}
 use Rattle.record.proofs.RefusalLaws.{Sized, Sound, refusal-stands, none-gives-way, first-refuses-nothing, rest-refuses-nothing, test-fails, unrefused-sized, in-range-bounded}
 use Rattle.sums.specs.Answers.{allanDemand}
-use Rattle.readings.specs.Readings.{readingNumber, sampleOf, samplesOf, readingRefusal}
+use Rattle.readings.specs.Readings.{readingNumber, sampleOf, readingRefusal}
 use Rattle.readings.specs.Answers.{floatRefusal}
 use Rattle.readings.proofs.FloatTests.{sample-bounded, bounded-fits}
 
@@ -58,13 +58,15 @@ module _ (xs : List Float) where
 
 -- ---- the samples of the readings
 
+abbrev pub samplesOf : List Float → List ℤ
+samplesOf xs = map sampleOf xs
+
 module _ (xs : List Float) where
   pub samples-length : length (samplesOf xs) ≡ length xs
-  unfolding samplesOf
   samples-length = length-map xs sampleOf
 
   pub sample-at : (k : ℕ) → at (samplesOf xs) k ≡ sampleOf (getD xs k nan)
-  unfolding samplesOf sampleOf
+  unfolding sampleOf
   sample-at k = List·getD-map sampleOf xs k nan
 
   pub samples-in-range : readingRefusal xs .number ≡ 0 → (k : ℕ) → k < length (samplesOf xs) → inRange (at (samplesOf xs) k) ≡ true

@@ -1,6 +1,6 @@
 -- What the sums of float readings answer.
 use mathlib.Core.Bool.{true, cond}
-use mathlib.Core.List.{List}
+use mathlib.Core.List.{List, map}
 use Prim.Native.Nat.{ℕ, _*_}
 use lib.Dec.{leb, ltb, eqb}
 use lib.Ieee.{Float}
@@ -11,7 +11,7 @@ use Rattle.record.specs.declared.Refusal.{Refusal}
 use Rattle.sums.specs.Published.{allanSum, allanCount, modifiedSum, modifiedCount}
 use Rattle.sums.specs.Answers.{allanDemand, partOf, noPart}
 use Rattle.sums.specs.declared.Part.{Part}
-use Rattle.readings.specs.Readings.{samplesOf, readingRefusal}
+use Rattle.readings.specs.Readings.{sampleOf, readingRefusal}
 use Rattle.readings.specs.declared.FloatSums.{FloatSums}
 
 -- 5, 2, 1 (N under 2m+1), 6 (a buffer shorter than N), then 3 or 4 at the lowest index
@@ -21,7 +21,7 @@ floatRefusal m xs room = sizeRefusal allanDemand m (length xs) then refusedIf (l
 -- the Allan and modified sums of the samples; N under 3m gives 1 for the modified part alone
 unfoldable pub floatAnswer : ℕ → List Float → ℕ → FloatSums
 floatAnswer m xs room =
-    let s : List ℤ = samplesOf xs in
+    let s : List ℤ = map sampleOf xs in
     let modified : Part = partOf (leb (3 * m) (length xs)) (modifiedSum m s) (modifiedCount m s) in
     cond (eqb (floatRefusal m xs room .number) 0)
     (record { number = 0; place = 0; allan = partOf true (allanSum m s) (allanCount m s); modified = modified })

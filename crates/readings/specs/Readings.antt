@@ -1,7 +1,7 @@
 -- Float readings: which become samples, and what the others are refused for, by cases on the float.
 use mathlib.Core.Path.{_≡_}
 use mathlib.Core.Bool.{Bool, cond}
-use mathlib.Core.List.{List, map}
+use mathlib.Core.List.{List}
 use Prim.Native.Nat.{ℕ, _*_, _/_, _%_, _^_}
 use lib.Dec.{ltb, eqb}
 use lib.IntN.{ℤ, pos, negℤ, natAbs}
@@ -30,10 +30,6 @@ pub record Exactly (x : Float) (z : ℤ) : Type 0 where
   pub sign : Bool
   pub value : HasValue x sign (natAbs z) 1
   pub signed : z ≡ cond sign (negℤ (pos (natAbs z))) (pos (natAbs z))
-
--- the samples of readings
-unfoldable pub samplesOf : List Float → List ℤ
-samplesOf xs = map sampleOf xs
 
 -- 3 or 4 at the first reading that is no sample
 unfoldable pub readingRefusal : List Float → Refusal

@@ -5,13 +5,14 @@ use record::Refusal;
 use sums::Part;
 use sums::SumAnswer;
 ghost use mathlib.Core.Path.{_≡_};
+ghost use mathlib.Core.List.{map};
 ghost use Prim.Native.Nat.{_≤_};
 ghost use lib.ListN.{length};
 ghost use Rattle.laws.specs.Lists.{written};
 ghost use Rattle.record.specs.Refusals.{none};
 ghost use Rattle.record.specs.Answers.{bufferLeft};
 ghost use Rattle.sums.specs.Answers.{noPart};
-ghost use Rattle.readings.specs.Readings.{samplesOf, readingRefusal};
+ghost use Rattle.readings.specs.Readings.{sampleOf, readingRefusal};
 ghost use Rattle.readings.specs.Answers.{floatRefusal, floatAnswer};
 
 // The Allan sum, and the modified sum with its own number where it is not due.
@@ -27,7 +28,7 @@ pub struct FloatSums {
 // index.
 pub fn float_sums(readings: &[f64], m: u64, buffer: &mut [i64]) -> FloatSums
     ensures { λ r. ⌜ r ≡ floatAnswer m (now (readings .entry)) (length (now (buffer .entry))) ⌝ }
-    ensures { λ r. ⌜ now (buffer .exit) ≡ bufferLeft (floatRefusal m (now (readings .entry)) (length (now (buffer .entry)))) (samplesOf (now (readings .entry))) (now (buffer .entry)) ⌝ }
+    ensures { λ r. ⌜ now (buffer .exit) ≡ bufferLeft (floatRefusal m (now (readings .entry)) (length (now (buffer .entry)))) (map sampleOf (now (readings .entry))) (now (buffer .entry)) ⌝ }
 {
     let refusal = float_refusal(readings, m, buffer.len());
     if refusal.number != 0 {
@@ -86,7 +87,7 @@ fn reading_refusal(readings: &[f64]) -> Refusal
 // The samples at the front of the buffer.
 fn write_samples(readings: &[f64], buffer: &mut [i64])
     requires { ⌜ (readingRefusal (now readings) ≡ none) × (length (now readings) ≤ length (now buffer)) ⌝ }
-    ensures { λ r. ⌜ now (buffer .exit) ≡ written (samplesOf (now (readings .entry))) (now (buffer .entry)) ⌝ }
+    ensures { λ r. ⌜ now (buffer .exit) ≡ written (map sampleOf (now (readings .entry))) (now (buffer .entry)) ⌝ }
 {
     let mut i: usize = 0;
     while i < readings.len() {

@@ -22,10 +22,15 @@ write-samples-requires c κs =
     (unrefused-none _ (unrefused-readings _ _ _ unrefused), unrefused-room _ _ _ unrefused)
 
 slice-reshare-prefix-samples : tie.Need-slice-reshare-prefix-samples
-slice-reshare-prefix-samples c = samples-room _ _ (c .before .write-samples .ensures)
+slice-reshare-prefix-samples c =
+    let w = c .before in
+    samples-room (w .before .before .before .before .before .before .args .readings .now) _ (w .write-samples .ensures)
 
 slice-aggregate-samples : tie.Need-slice-aggregate-samples
-slice-aggregate-samples c = sym (ap length (samples-taken _ _ (c .before .before .write-samples .ensures)) ∙ samples-length _)
+slice-aggregate-samples c =
+    let w = c .before .before in
+    let readings = w .before .before .before .before .before .before .args .readings .now in
+    sym (ap length (samples-taken readings _ (w .write-samples .ensures)) ∙ samples-length readings)
 
 allan-sum-requires : tie.Need-allan-sum-requires
 allan-sum-requires c κs = search needs
@@ -46,7 +51,7 @@ returns-2 : tie.Need-returns-2
 returns-2 c =
     let w = c .before .before .before .before .before .before in
     let e = w .before .before in
-    call-answered _ _ _ _ (e .before .before .float-refusal .ensures) (e .if1 .left) (samples-taken _ _ (w .write-samples .ensures))
+    call-answered _ _ _ _ (e .before .before .float-refusal .ensures) (e .if1 .left) (samples-taken (e .before .before .before .before .args .readings .now) _ (w .write-samples .ensures))
     (c .before .before .part-of .ensures ∙ ap asPart (c .before .before .before .allan-sum .ensures))
     (c .part-of2 .ensures ∙ ap asPart (c .before .modified-sum .ensures))
     (w .write-samples .ensures)

@@ -5,8 +5,7 @@ use native.Mathlib.Omega.{arith}
 use lib.ListN.{length, length-set}
 use Rattle.laws.proofs.ListLaws.{writtenSoFar}
 use Rattle.record.specs.declared.Refusal.{Refusal}
-use Rattle.readings.specs.Readings.{samplesOf}
-use Rattle.readings.proofs.RefusalLaws.{unrefused-sample, sample-stored, all-samples-written}
+use Rattle.readings.proofs.RefusalLaws.{samplesOf, unrefused-sample, sample-stored, all-samples-written}
 use Rattle.readings.proofs.write_samples.Statement.{statement}
 use Rattle.readings.proofs.write_samples.Tie as tie
 
@@ -58,7 +57,7 @@ same-length c = omega arith
 returns : tie.Need-returns Inv-loop μ-loop
 returns c =
     let h = c .before in
-    h .loop .inv .2 ∙ all-samples-written _ _ (h .loop .i) (omega arith)
+    h .loop .inv .2 ∙ all-samples-written (h .before .before .args .readings .now) _ (h .loop .i) (omega arith)
 
 pub write-samples-spec : {M : Type 1} → statement M
 write-samples-spec =
