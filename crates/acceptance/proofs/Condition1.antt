@@ -82,10 +82,9 @@ use Rattle.plot.proofs.dots.allan_dot.Kinds as allan-dot-kinds
 use Rattle.plot.proofs.dots.time_dot.Reads as time-dot
 use Rattle.plot.proofs.dots.time_dot.Kinds as time-dot-kinds
 use Rattle.noise.proofs.Unique.{noise-type-single, noise-of-record-single, bars-single}
-use Rattle.noise.specs.Noise.{typeAnswer, recordTypeAnswer, alphaOf}
+use Rattle.noise.specs.Noise.{alphaOf, toldAlpha}
 use Rattle.noise.specs.declared.NoiseAnswer.{NoiseAnswer}
 use Rattle.noise.specs.declared.Noise.{Noise}
-use Rattle.noise.specs.declared.Noise.the-variants.{WhitePhase}
 use Rattle.noise.proofs.noise_type.Reads as noise-type
 use Rattle.noise.proofs.noise_type.Kinds as noise-type-kinds
 use Rattle.noise.proofs.noise_of_record.Reads as noise-of-record
@@ -154,7 +153,7 @@ use Rattle.ploegelster.proofs.drawing.plg_noise_of_record.Kinds as plg-noise-of
 use Rattle.ploegelster.proofs.drawing.plg_bars.Reads as plg-bars
 use Rattle.ploegelster.proofs.drawing.plg_bars.Kinds as plg-bars-kinds
 use Rattle.acceptance.specs.Noughts.{Refused, SumNought, PartsNought, PartsApart, DotNought, BarsNought}
-use Rattle.acceptance.proofs.NoughtLaws.{count-noughts, past-the-count, read-noughts, past-the-values, sum-noughts, float-noughts, float-part-noughts, past-the-samples, report-noughts, report-part-noughts, drift-noughts, meter-as-it-came, ring-as-it-came, other-slots-unchanged, own-slot-written, drawn-noughts, dot-noughts, told-dot-noughts, fraction-noughts, deviation-noughts, noise-noughts, told-noise-noughts, bars-noughts, alpha-bars-noughts}
+use Rattle.acceptance.proofs.NoughtLaws.{count-noughts, past-the-count, read-noughts, past-the-values, sum-noughts, float-noughts, float-part-noughts, past-the-samples, report-noughts, report-part-noughts, drift-noughts, meter-as-it-came, ring-as-it-came, other-slots-unchanged, own-slot-written, drawn-noughts, dot-noughts, told-dot-noughts, fraction-noughts, deviation-noughts, alpha-nought, bars-noughts, alpha-bars-noughts}
 
 -- ---- wide: whole numbers of 128 bits; nothing is refused
 
@@ -300,17 +299,15 @@ pub time-dot-settled : Settled 0 time-dot-kinds.ps time-dot-kinds.r time-dot.Pos
     (λ κs args z w. Refused (z .number) → DotNought (z .dot))
 time-dot-settled = (time-dot-single, λ κs args z w is. rw is (dot-noughts _))
 
--- ---- noise
+-- ---- noise: a type is one of five cases and none of them is nought; what an answer tells of it is nought beside a refusal, here as in C
 
 pub noise-type-settled : Settled 0 noise-type-kinds.ps noise-type-kinds.r noise-type.Post
-    (λ κs args z w. Refused (z .number) → z .noise ≡ WhitePhase)
-unfolding typeAnswer
-noise-type-settled = (noise-type-single, λ κs args z w is. rw is (noise-noughts _ _))
+    (λ κs args z w. Refused (z .number) → toldAlpha z ≡ pos 0)
+noise-type-settled = (noise-type-single, λ κs args z w is. alpha-nought z)
 
 pub noise-of-record-settled : Settled 1 noise-of-record-kinds.ps noise-of-record-kinds.r noise-of-record.Post
-    (λ κs args z w. Refused (z .number) → z .noise ≡ WhitePhase)
-unfolding recordTypeAnswer
-noise-of-record-settled = (noise-of-record-single, λ κs args z w is. rw is (noise-noughts _ _))
+    (λ κs args z w. Refused (z .number) → toldAlpha z ≡ pos 0)
+noise-of-record-settled = (noise-of-record-single, λ κs args z w is. alpha-nought z)
 
 pub bars-settled : Settled 0 bars-kinds.ps bars-kinds.r bars.Post
     (λ κs args z w. Refused (z .number) → BarsNought z)
@@ -425,7 +422,8 @@ plg-noise-type-tells κs args z w is own other = is ∙ sym (ap toldNoise other)
 
 pub plg-noise-type-settled : Settled 0 plg-noise-type-kinds.ps plg-noise-type-kinds.r plg-noise-type.Post
     (λ κs args z w. Refused (z .number) → z .alpha ≡ pos 0)
-plg-noise-type-settled = (plg-noise-type-single, λ κs args z w is. rw is (told-noise-noughts _))
+unfolding toldNoise
+plg-noise-type-settled = (plg-noise-type-single, λ κs args z w is. rw is (alpha-nought _))
 
 pub plg-noise-of-record-tells : Always 1 plg-noise-of-record-kinds.ps plg-noise-of-record-kinds.r plg-noise-of-record.Post
     (λ κs args z w. (own : NoiseAnswer) → noise-of-record.Post κs args own (atExit (endedOf 1 noise-of-record-kinds.ps noise-of-record-kinds.r) κs args w) → z ≡ toldNoise own)
@@ -433,7 +431,8 @@ plg-noise-of-record-tells κs args z w is own other = is ∙ sym (ap toldNoise o
 
 pub plg-noise-of-record-settled : Settled 1 plg-noise-of-record-kinds.ps plg-noise-of-record-kinds.r plg-noise-of-record.Post
     (λ κs args z w. Refused (z .number) → z .alpha ≡ pos 0)
-plg-noise-of-record-settled = (plg-noise-of-record-single, λ κs args z w is. rw is (told-noise-noughts _))
+unfolding toldNoise
+plg-noise-of-record-settled = (plg-noise-of-record-single, λ κs args z w is. rw is (alpha-nought _))
 
 -- an alpha stands for the type that has it
 pub plg-bars-tells : Always 0 plg-bars-kinds.ps plg-bars-kinds.r plg-bars.Post

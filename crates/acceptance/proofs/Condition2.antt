@@ -51,7 +51,7 @@ use Rattle.plot.proofs.dots.allan_dot.Reads as allan-dot
 use Rattle.plot.proofs.dots.allan_dot.Kinds as allan-dot-kinds
 use Rattle.plot.proofs.dots.time_dot.Reads as time-dot
 use Rattle.plot.proofs.dots.time_dot.Kinds as time-dot-kinds
-use Rattle.noise.specs.Noise.{alphaOf}
+use Rattle.noise.specs.Noise.{alphaOf, toldAlpha}
 use Rattle.noise.proofs.noise_type.Reads as noise-type
 use Rattle.noise.proofs.noise_type.Kinds as noise-type-kinds
 use Rattle.noise.proofs.noise_of_record.Reads as noise-of-record
@@ -215,13 +215,13 @@ time-dot-too-few κs args z w is least most none = rw (is, none) (rw (time-too-f
 
 -- The type by the table of bounds.
 pub noise-type-published : Always 0 noise-type-kinds.ps noise-type-kinds.r noise-type.Post
-    (λ κs args z w. let r1 = args .0 in let r2 = args .1 .0 in z .number ≡ 0 → TypeByTable r1 r2 (alphaOf (z .noise)))
+    (λ κs args z w. let r1 = args .0 in let r2 = args .1 .0 in z .number ≡ 0 → TypeByTable r1 r2 (toldAlpha z))
 noise-type-published κs args z w is answered =
     rw is (type-of _ _ (answered-none (type-agrees _ _) (noise-type-grounds κs args z w is) answered))
 
 -- From a record: r1 and r2 are its time deviations at m and 2m.
 pub noise-of-record-published : Always 1 noise-of-record-kinds.ps noise-of-record-kinds.r noise-of-record.Post
-    (λ κs args z w. let xs = now (args .0) in let m = args .1 .0 in z .number ≡ 0 → NoiseOf m xs (alphaOf (z .noise)))
+    (λ κs args z w. let xs = now (args .0) in let m = args .1 .0 in z .number ≡ 0 → NoiseOf m xs (toldAlpha z))
 noise-of-record-published κs args z w is answered =
     rw is (noise-of _ _ (answered-none (record-type-agrees _ _) (noise-of-record-grounds κs args z w is) answered))
 

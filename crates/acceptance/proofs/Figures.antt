@@ -17,7 +17,7 @@ use Rattle.variances.specs.Fractions.{euclid, gcd}
 use Rattle.variances.specs.Deviations.{deviation}
 use Rattle.sums.specs.Answers.{sumAnswer, allanSumAnswer, modifiedSumAnswer}
 use Rattle.variances.specs.Answers.{figureRefusal, fractionAnswer, allanFractionAnswer, timeFractionAnswer, deviationAnswer, allanDeviationAnswer}
-use Rattle.noise.specs.Noise.{alphaOf, kappaOf, noiseOf, noiseRefusal, noiseAnswer, typeAnswer}
+use Rattle.noise.specs.Noise.{alphaOf, kappaOf, noiseOf, noiseRefusal, noiseAnswer, toldAlpha, typeAnswer}
 use Rattle.noise.specs.Bars.{barWidth, barHalf, barsRefusal, barOf, barsAnswer}
 use Rattle.phr.specs.Bytes.{lowFirst, twosComplement, valuesBytes}
 use Rattle.phr.specs.File.{header, fileOf, mostValues, valueInRange}
@@ -47,7 +47,7 @@ use Rattle.phr.proofs.write_file.Kinds as write-file-kinds
 use Rattle.acceptance.specs.Figures.{Starred}
 
 pub starred-figures : Starred
-unfolding sum sumℤ tabulate firstFailing bitByBit inRange rangeRefusal sizeRefusal recordRefusal countAnswer bufferLeft phases firstLeaving phaseRefusal driftP driftR driftRefusal driftAnswer floored withoutDrift removalRefusal difference allanCount allanSum allanDenominator windowSum modifiedCount modifiedSum timeDenominator euclid gcd deviation sumAnswer allanSumAnswer modifiedSumAnswer figureRefusal fractionAnswer allanFractionAnswer timeFractionAnswer deviationAnswer allanDeviationAnswer alphaOf kappaOf noiseOf noiseRefusal noiseAnswer typeAnswer barWidth barHalf barsRefusal barOf barsAnswer lowFirst twosComplement valuesBytes header fileOf mostValues valueInRange writeRefusal
+unfolding sum sumℤ tabulate firstFailing bitByBit inRange rangeRefusal sizeRefusal recordRefusal countAnswer bufferLeft phases firstLeaving phaseRefusal driftP driftR driftRefusal driftAnswer floored withoutDrift removalRefusal difference allanCount allanSum allanDenominator windowSum modifiedCount modifiedSum timeDenominator euclid gcd deviation sumAnswer allanSumAnswer modifiedSumAnswer figureRefusal fractionAnswer allanFractionAnswer timeFractionAnswer deviationAnswer allanDeviationAnswer alphaOf kappaOf noiseOf noiseRefusal noiseAnswer toldAlpha typeAnswer barWidth barHalf barsRefusal barOf barsAnswer lowFirst twosComplement valuesBytes header fileOf mostValues valueInRange writeRefusal
 starred-figures = record {
   squares-at-1 = (refl, refl);
   squares-deviation = refl;

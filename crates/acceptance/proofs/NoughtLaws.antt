@@ -39,12 +39,11 @@ use Rattle.plot.specs.Dots.{dotNumber, dotValue, dotAnswer}
 use Rattle.ploegelster.specs.Boundary.{dotKind, toldDot}
 use Rattle.variances.specs.declared.DeviationAnswer.{DeviationAnswer}
 use Rattle.variances.specs.Answers.{fractionAnswer, deviationAnswer}
-use Rattle.noise.specs.Noise.{noiseAnswer, toldAlpha}
+use Rattle.noise.specs.Noise.{toldAlpha}
 use Rattle.noise.specs.Bars.{noBar, barsRefusal, barsAnswer}
 use Rattle.noise.specs.declared.Noise.{Noise}
-use Rattle.noise.specs.declared.Noise.the-variants.{WhitePhase}
 use Rattle.noise.specs.declared.NoiseAnswer.{NoiseAnswer}
-use Rattle.ploegelster.specs.Boundary.{toldNoise, noSuchType, barsByAlpha}
+use Rattle.ploegelster.specs.Boundary.{noSuchType, barsByAlpha}
 use Rattle.acceptance.specs.Noughts.{Refused, SumNought, PartsNought, PartsApart, DotNought, BarsNought}
 
 -- ---- a count and its buffer
@@ -229,13 +228,10 @@ deviation-noughts r d some = rw (by-refusal r (λ nothing. rw nothing) some) ref
 
 -- ---- noise types and bars
 
-pub noise-noughts : (r : Refusal) (t : Noise) → Refused (noiseAnswer r t .number) → noiseAnswer r t .noise ≡ WhitePhase
-unfolding noiseAnswer
-noise-noughts r t some = rw (by-refusal r (λ nothing. rw nothing) some) refl
-
-pub told-noise-noughts : (a : NoiseAnswer) → Refused (toldNoise a .number) → toldNoise a .alpha ≡ pos 0
-unfolding toldNoise toldAlpha
-told-noise-noughts a some = rw (ne-eqb (a .number) 0 some) refl
+-- the alpha that an answer tells, in Rattle and in C
+pub alpha-nought : (a : NoiseAnswer) → Refused (a .number) → toldAlpha a ≡ pos 0
+unfolding toldAlpha
+alpha-nought a some = rw (ne-eqb (a .number) 0 some) refl
 
 pub bars-noughts : (r : ℕ) (t : Noise) (m : ℕ) → Refused (barsAnswer r t m .number) → BarsNought (barsAnswer r t m)
 unfolding barsAnswer noBar

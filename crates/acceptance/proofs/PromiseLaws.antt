@@ -58,7 +58,7 @@ use Rattle.plot.specs.Drawn.{GreatestDouble, drawnAnswer}
 use Rattle.plot.specs.Dots.{dotNumber, dotValue, dotAnswer}
 use Rattle.plot.proofs.DrawnLaws.{drawn-is-greatest, drawn-given}
 use Rattle.plot.proofs.DotLaws.{nought-dot, drawn-dot}
-use Rattle.noise.specs.Noise.{alphaOf, kappaOf, noiseOf, noiseRefusal, typeAnswer, timeDeviation, recordTypeAnswer}
+use Rattle.noise.specs.Noise.{alphaOf, kappaOf, noiseOf, noiseRefusal, toldAlpha, typeAnswer, timeDeviation, recordTypeAnswer}
 use Rattle.noise.specs.Bars.{barWidth, barHalf, barsRefusal, barOf, barsAnswer}
 use Rattle.noise.specs.declared.Noise.{Noise}
 use Rattle.noise.specs.declared.Noise.the-variants.{WhitePhase, FlickerPhase, WhiteFrequency, FlickerFrequency, RandomWalkFrequency}
@@ -399,8 +399,8 @@ type-by-table r1 r2 = record {
       ) refl;
 }
 
-pub type-of : (r1 r2 : ℕ) → noiseRefusal r1 r2 ≡ none → TypeByTable r1 r2 (alphaOf (typeAnswer r1 r2 .noise))
-unfolding typeAnswer
+pub type-of : (r1 r2 : ℕ) → noiseRefusal r1 r2 ≡ none → TypeByTable r1 r2 (toldAlpha (typeAnswer r1 r2))
+unfolding typeAnswer toldAlpha
 type-of r1 r2 nothing = rw (noise-given (noiseRefusal r1 r2) (noiseOf r1 r2) (rw nothing)) (type-by-table r1 r2)
 
 -- of a record, r1 and r2 its time deviations at m and 2m
@@ -416,8 +416,8 @@ module _ (m : ℕ) (xs : List ℤ) where
       )
 
   pub noise-of : (recordRefusal noiseDemand m xs then noiseRefusal (timeDeviation m xs) (timeDeviation (2 * m) xs)) ≡ none →
-      NoiseOf m xs (alphaOf (recordTypeAnswer m xs .noise))
-  unfolding recordTypeAnswer
+      NoiseOf m xs (toldAlpha (recordTypeAnswer m xs))
+  unfolding recordTypeAnswer toldAlpha
   noise-of nothing =
       let rest = noiseRefusal (timeDeviation m xs) (timeDeviation (2 * m) xs) in
       let sound = unrefused-sound noiseDemand m xs (first-refuses-nothing (recordRefusal noiseDemand m xs) rest (ap (λ (r : Refusal). r .number) nothing)) in record {

@@ -15,7 +15,7 @@ use Rattle.sums.specs.declared.SumAnswer.{SumAnswer}
 use Rattle.variances.specs.Answers.{allanFractionAnswer, timeFractionAnswer, allanDeviationAnswer}
 use Rattle.variances.specs.declared.FractionAnswer.{FractionAnswer}
 use Rattle.plot.specs.Drawn.{drawnNumber}
-use Rattle.noise.specs.Noise.{alphaOf, typeAnswer}
+use Rattle.noise.specs.Noise.{toldAlpha, typeAnswer}
 use Rattle.noise.specs.Bars.{barsAnswer}
 use Rattle.noise.specs.declared.Noise.the-variants.{FlickerFrequency}
 use Rattle.phr.specs.File.{fileOf}
@@ -49,7 +49,7 @@ Drift xs P R left =
 
 -- alpha of the type of two deviations
 abbrev pub Typed : ℕ → ℕ → ℤ → Type 0
-Typed r1 r2 alpha = (typeAnswer r1 r2 .number ≡ 0) × (alphaOf (typeAnswer r1 r2 .noise) ≡ alpha)
+Typed r1 r2 alpha = (typeAnswer r1 r2 .number ≡ 0) × (toldAlpha (typeAnswer r1 r2) ≡ alpha)
 
 -- ---- the table
 

@@ -219,9 +219,9 @@ module _ (bytes : List ℕ) (room : ℕ) where
     no-room : NoRow OfHeader → length bytes ≡ 8 + 8 * countOf bytes → room < countOf bytes → OfReading 6 0
     range : {i : ℕ} → NoRow OfHeader → length bytes ≡ 8 + 8 * countOf bytes → countOf bytes ≤ room → First (countOf bytes) (λ k. FarValue (kindOf bytes) (valueAt bytes (8 + 8 * k))) i → OfReading 3 i
 
-module _ (kind : ℕ) (values : List ℤ) (room : ℕ) where
-  pub data OfWriting : ℕ → ℕ → Type 0 where
-    no-kind : 1 < kind → OfWriting 9 5
-    many : TooMany kind (length values) → OfWriting 2 0
-    no-room : kind ≤ 1 → (TooMany kind (length values) → ⊥) → room < 8 + 8 * length values → OfWriting 6 0
-    range : {i : ℕ} → kind ≤ 1 → (TooMany kind (length values) → ⊥) → 8 + 8 * length values ≤ room → First (length values) (λ k. FarValue kind (at values k)) i → OfWriting 3 i
+pub data OfWriting (kind : ℕ) (values : List ℤ) (room : ℕ) : ℕ → ℕ → Type 0 where
+  no-kind : 1 < kind → OfWriting kind values room 9 5
+  many : TooMany kind (length values) → OfWriting kind values room 2 0
+  no-room : kind ≤ 1 → (TooMany kind (length values) → ⊥) → room < 8 + 8 * length values → OfWriting kind values room 6 0
+  range : {i : ℕ} → kind ≤ 1 → (TooMany kind (length values) → ⊥) → 8 + 8 * length values ≤ room →
+      First (length values) (λ k. FarValue kind (at values k)) i → OfWriting kind values room 3 i

@@ -9,6 +9,7 @@ use Rattle.wide.specs.Wide.{value}
 use Rattle.record.specs.Refusals.{refusedIf, _then_, inRange}
 use Rattle.record.specs.declared.Refusal.{Refusal}
 use Rattle.sums.specs.Answers.{partOf, noPart}
+use Rattle.sums.specs.declared.Part.{Part}
 use Rattle.meter.specs.Meter.{factorFits, holdsTogether, ringHolds, withSample, ringWith, started}
 use Rattle.meter.specs.declared.Meter.{Meter}
 use Rattle.meter.specs.declared.MeterAnswer.{MeterAnswer}
@@ -17,9 +18,7 @@ use Rattle.meter.specs.declared.Report.{Report}
 -- a new meter, or the refusal and the meter as it came
 unfoldable pub meterAnswer : Refusal → Meter → Meter → MeterAnswer
 meterAnswer r old new =
-    cond (eqb (r .number) 0)
-    (record { number = 0; place = 0; meter = new })
-    (record { number = r .number; place = r .place; meter = old })
+    cond (eqb (r .number) 0) (record { number = 0; place = 0; meter = new }) (record { number = r .number; place = r .place; meter = old })
 
 -- a start refuses 5, then 6, never 7
 unfoldable pub startRefusal : ℕ → List ℤ → Refusal
@@ -45,11 +44,7 @@ ringLeft x ring v = cond (eqb (sampleRefusal x ring v .number) 0) (ringWith x ri
 -- a report refuses 7; else A with n-2m and B with n-3m+1, each apart
 unfoldable pub reportAnswer : Meter → Report
 reportAnswer x =
-    cond (holdsTogether x)
-    (record {
-      number = 0;
-      place = 0;
-      allan = partOf (leb (2 * x .m + 1) (x .n)) (value (x .a)) (x .n - 2 * x .m);
-      modified = partOf (leb (3 * x .m) (x .n)) (value (x .b)) (x .n + 1 - 3 * x .m);
-    })
+    let allan : Part = partOf (leb (2 * x .m + 1) (x .n)) (value (x .a)) (x .n - 2 * x .m) in
+    let modified : Part = partOf (leb (3 * x .m) (x .n)) (value (x .b)) (x .n + 1 - 3 * x .m) in
+    cond (holdsTogether x) (record { number = 0; place = 0; allan = allan; modified = modified })
     (record { number = 7; place = 0; allan = noPart; modified = noPart })

@@ -18,11 +18,8 @@ factorFits m = leb 1 m && leb m 10922
 -- the meter holds together: m in its range, n not above 32,768, the window sum within m times 2^42 either way, both high halves below 2^62
 unfoldable pub holdsTogether : Meter → Bool
 holdsTogether x =
-    factorFits (x .m)
-    && (leb (x .n) 32768
-    && (leb (natAbs (x .window)) (x .m * 2 ^ 42)
-    && (ltb (x .a .hi) (2 ^ 62)
-    && ltb (x .b .hi) (2 ^ 62))))
+    factorFits (x .m) && (leb (x .n) 32768 && (leb (natAbs (x .window)) (x .m * 2 ^ 42)
+    && (ltb (x .a .hi) (2 ^ 62) && ltb (x .b .hi) (2 ^ 62))))
 
 -- sample number k lies in ring slot k mod 3m
 unfoldable pub slot : Meter → List ℤ → ℕ → ℤ
