@@ -14,6 +14,7 @@ ROOT = Path(__file__).resolve().parent.parent
 SUMS, RECORD, METER = "crates/sums/src/lib.rt", "crates/record/src/lib.rt", "crates/meter/src/lib.rt"
 PUBLISHED, UNIQUE = "crates/ploegelster/src/published.rt", "crates/sums/proofs/Unique.antt"
 CONDITION1, CONDITION2 = house.CONDITION1, "crates/acceptance/proofs/Condition2.antt"
+GROUNDS = house.GROUNDS
 HEADER, RULES, STATEMENTS = house.HEADER, house.RULES, house.STATEMENTS
 EDIT = "crates/meter/must-fail/sums_left.edit"
 RUST = next(path for path in house.House(ROOT, []).files("rust/**/boundary.rs"))
@@ -54,6 +55,13 @@ CASES = [
      "pub fn Meter::start of crates/meter/src/lib.rt has no theorem meter-start-settled or"),
     (CONDITION1, "pub remove-drift-past :", "pub remove-drift-beyond :",
      "pub fn remove_drift of crates/drift/src/lib.rt has no theorem remove-drift-past"),
+    (GROUNDS, "pub allan-sum-grounds :", "pub allan-sum-reasons :", "pub fn allan_sum of crates/sums/src/lib.rt has no theorem allan-sum-grounds"),
+    (GROUNDS, "pub size-refusal-grounds :", "pub size-grounds :",
+     "pub fn size_refusal of crates/record/src/lib.rt has no theorem size-refusal-grounds"),
+    (GROUNDS, "plg-bars-kinds.r plg-bars.Post", "plg-bars-kinds.r bars.Post",
+     "pub fn plg_bars of crates/ploegelster/src/drawing.rt has no theorem plg-bars-grounds"),
+    (CONDITION1, "pub plg-bars-settled :", "pub plg-bars-calm :",
+     "pub fn plg_bars of crates/ploegelster/src/drawing.rt has no theorem plg-bars-settled or"),
     (CONDITION1, "pub plg-allan-sum-is :", "pub plg-allan-sum-was :",
      "pub fn plg_allan_sum of crates/ploegelster/src/published.rt has no theorem plg-allan-sum-is or"),
     (CONDITION1, "≡ allan-sum.Post", "≡ plg-allan-sum.Post",
