@@ -1,7 +1,8 @@
 -- Condition 1: every input is answered or refused by number. For each public function of each crate: any two results that its own contract allows of
 -- the same arguments are equal, and so is what is left of each lent buffer (Single); beside a refusal every other value is nought, a lent buffer and a
 -- meter are as they came (NAME-settled); the entries of a buffer past the output are never changed, refused or not (NAME-past). Single and Always
--- stand in crates/laws/specs/Single.antt, the noughts in specs/Noughts.antt. No public function has a `requires`, and none is an exception.
+-- stand in crates/laws/specs/Single.antt, the noughts in specs/Noughts.antt. When exactly a call is refused, by which number at which place, is told by
+-- Grounds.antt. No public function has a `requires`, and none is an exception.
 use mathlib.Core.Path.{_≡_, refl, sym, ap, _∙_}
 use Prim.Native.Nat.{ℕ, _*_, _%_, _≤_}
 use borrow.Fn.Kinds.{endedOf}

@@ -1,6 +1,6 @@
 -- Condition 2: the published figure, exactly. Each theorem speaks of every result that the function's own contract allows (Always,
--- crates/laws/specs/Single.antt); what is promised of a result stands in specs/Promises.antt. The exported functions have the same contracts
--- (Condition1.antt, NAME-is), or tell the same answers in numbers (NAME-tells).
+-- crates/laws/specs/Single.antt) where the call is answered, which Grounds.antt tells exactly; what is promised of a result stands in
+-- specs/Promises.antt. The exported functions have the same contracts (Condition1.antt, NAME-is), or tell the same answers in numbers (NAME-tells).
 use mathlib.Core.Path.{_≡_, refl, _∙_, ap}
 use mathlib.Core.List.{List}
 use Prim.Native.Nat.{ℕ, _+_, _-_, _*_, _≤_, _<_}

@@ -1,4 +1,5 @@
--- The ground of every refusal: for each public function that refuses, whatever its own contract allows is grounded (specs/Grounds.antt) in its table.
+-- Condition 1, the ground of every refusal: for each public function that refuses, whatever its own contract allows is grounded in its table
+-- (specs/Grounds.antt). An exported function whose contract is the entry's own (Condition1.antt, NAME-is) has the entry's table.
 use Prim.Native.Nat.{_+_, _*_}
 use native.Mathlib.Omega.{arith}
 use denote.Ref.{now}

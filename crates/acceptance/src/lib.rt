@@ -1,2 +1,2 @@
-// What the customer opens first, and no code: the three conditions restated over the functions' own contracts (proofs/Condition1 to Condition3), and
-// the starred figures of the rules as a single table (specs/Figures) with one proof.
+// What the customer opens first, and no code: what is promised and when a call is refused (specs/), and the three conditions proved of the functions' own
+// contracts (proofs/Condition1 to Condition3, proofs/Grounds, proofs/Figures).
