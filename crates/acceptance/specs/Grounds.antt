@@ -57,17 +57,18 @@ OutOfRange xs k = 2 ^ 40 < natAbs (at xs k)
 
 -- ---- records
 
--- 3 at the first sample out of range
+-- range_refusal: a record's samples alone
 pub data OfRange (xs : List ℤ) : ℕ → ℕ → Type 0 where
   range : {i : ℕ} → First (length xs) (OutOfRange xs) i → OfRange xs 3 i
 
--- a factor m of at most the largest; n samples, the fewest or more
+-- size_refusal, and the first rows of what follows: a factor m of at most the largest; n samples, the fewest or more
 module _ (largest fewest m : ℕ) where
   pub data OfSize (n : ℕ) : ℕ → ℕ → Type 0 where
     factor : Outside 1 largest m → OfSize n 5 0
     many : Between 1 largest m → 32768 < n → OfSize n 2 0
     few : Between 1 largest m → n ≤ 32768 → n < fewest → OfSize n 1 0
 
+  -- record_refusal; allan_sum at factors up to 10,922, the fewest 2m+1; modified_sum the same, 3m
   pub data OfRecord (xs : List ℤ) : ℕ → ℕ → Type 0 where
     size : {n p : ℕ} → OfSize (length xs) n p → OfRecord xs n p
     range : {i : ℕ} → NoRow (OfSize (length xs)) → First (length xs) (OutOfRange xs) i → OfRecord xs 3 i
@@ -75,28 +76,31 @@ module _ (largest fewest m : ℕ) where
 -- ---- fractions, deviations and dots, of a sum at factor m with its count
 
 module _ (sum m count : ℕ) where
+  -- allan_fraction, time_fraction
   pub data OfFraction : ℕ → ℕ → Type 0 where
     factor : Outside 1 10922 m → OfFraction 5 0
     no-count : Between 1 10922 m → count ≡ 0 → OfFraction 1 0
     many : Between 1 10922 m → 32768 < count → OfFraction 2 0
     large : Between 1 10922 m → Between 1 32768 count → 2 ^ 126 ≤ sum → OfFraction 3 0
 
-  -- r would be the deviation of the variance sum / d
+  -- allan_deviation, time_deviation: r would be the deviation of the variance sum / d
   pub data OfDeviation (d : ℕ) : ℕ → ℕ → Type 0 where
     fraction : {n p : ℕ} → OfFraction n p → OfDeviation d n p
     above : {r : ℕ} → NoRow OfFraction → Greatest (within sum d) r → 2 ^ 62 < r → OfDeviation d 3 0
 
-  -- a count of 0, the one row of number 1, is no refusal but the dot too few
+  -- allan_dot, time_dot: a count of 0, the one row of number 1, is no refusal but the dot too few
   pub data OfDot (d : ℕ) : ℕ → ℕ → Type 0 where
     deviation : {n p : ℕ} → (n ≡ 1 → ⊥) → OfDeviation d n p → OfDot d n p
 
 -- ---- phase and frequency, with room for so many in the lent buffer
 
+-- phase_from_frequency
 pub data OfPhases (ys : List ℤ) (room : ℕ) : ℕ → ℕ → Type 0 where
   many : 32767 < length ys → OfPhases ys room 2 0
   no-room : length ys ≤ 32767 → room < length ys + 1 → OfPhases ys room 6 0
   leaves : {i : ℕ} → length ys ≤ 32767 → length ys + 1 ≤ room → First (length ys) (λ k. 2 ^ 40 < natAbs (sumℤ (k + 1) (at ys))) i → OfPhases ys room 3 i
 
+-- frequency_from_phase
 pub data OfDifferences (xs : List ℤ) (room : ℕ) : ℕ → ℕ → Type 0 where
   many : 32768 < length xs → OfDifferences xs room 2 0
   no-sample : length xs ≡ 0 → OfDifferences xs room 1 0
@@ -105,11 +109,13 @@ pub data OfDifferences (xs : List ℤ) (room : ℕ) : ℕ → ℕ → Type 0 whe
 
 -- ---- drift
 
+-- drift_figure
 pub data OfDrift (xs : List ℤ) : ℕ → ℕ → Type 0 where
   many : 32768 < length xs → OfDrift xs 2 0
   few : length xs < 3 → OfDrift xs 1 0
   range : {i : ℕ} → Between 3 32768 (length xs) → First (length xs) (OutOfRange xs) i → OfDrift xs 3 i
 
+-- remove_drift: all samples are tested first
 pub data OfRemoval (xs : List ℤ) (room : ℕ) : ℕ → ℕ → Type 0 where
   many : 32768 < length xs → OfRemoval xs room 2 0
   few : length xs < 3 → OfRemoval xs room 1 0
@@ -120,10 +126,12 @@ pub data OfRemoval (xs : List ℤ) (room : ℕ) : ℕ → ℕ → Type 0 where
 
 -- ---- float readings: a / c is the size of a reading's exact value
 
+-- a reading that is infinite or beyond the sample range, fraction or not
 pub data TooFar (x : Float) : Type 0 where
   infinite : {s : Bool} → x ≡ inf s → TooFar x
   beyond : (s : Bool) (a c : ℕ) → 0 < c → HasValue x s a c → 2 ^ 40 * c < a → TooFar x
 
+-- any other that is no sample: what is not a number, or a fraction in range
 pub data NotWhole (x : Float) : Type 0 where
   no-number : x ≡ nan → NotWhole x
   fraction : (s : Bool) (a c : ℕ) → 0 < c → HasValue x s a c → a ≤ 2 ^ 40 * c → (a % c ≡ 0 → ⊥) → NotWhole x
@@ -132,6 +140,7 @@ pub data NotWhole (x : Float) : Type 0 where
 abbrev pub NoSample : List Float → ℕ → Type 0
 NoSample xs k = TooFar (getD xs k nan) ⊎ NotWhole (getD xs k nan)
 
+-- float_sums
 module _ (m : ℕ) (xs : List Float) (room : ℕ) where
   pub data OfReadings : ℕ → ℕ → Type 0 where
     size : {n p : ℕ} → OfSize 10922 (2 * m + 1) m (length xs) n p → OfReadings n p
@@ -141,19 +150,21 @@ module _ (m : ℕ) (xs : List Float) (room : ℕ) where
 
 -- ---- drawn numbers, noise types and bars
 
+-- drawn_number
 pub data OfDrawn (r : ℕ) : ℕ → ℕ → Type 0 where
   range : Outside 1 (2 ^ 63) r → OfDrawn r 3 0
 
+-- noise_type
 pub data OfType (r1 r2 : ℕ) : ℕ → ℕ → Type 0 where
   above : (2 ^ 62 < r1) ⊎ (2 ^ 62 < r2) → OfType r1 r2 3 0
   nought : r1 ≡ 0 → r2 ≤ 2 ^ 62 → OfType r1 r2 8 0
 
--- of a record: the deviation at m is nought
+-- noise_of_record: at factors up to 5,461, the fewest 6m; then the deviation at m is nought
 pub data OfRecordType (m : ℕ) (xs : List ℤ) : ℕ → ℕ → Type 0 where
   of-record : {n p : ℕ} → OfRecord 5461 (6 * m) m xs n p → OfRecordType m xs n p
   nought : NoRow (OfRecord 5461 (6 * m) m xs) → Greatest (within (modifiedSum m xs) (6 * (m * m) * (length xs - 3 * m + 1))) 0 → OfRecordType m xs 8 0
 
--- the types are those of alpha -2 to 2
+-- bars, of a type by its alpha: the types are those of alpha -2 to 2
 pub data OfBars (r : ℕ) (alpha : ℤ) (M : ℕ) : ℕ → ℕ → Type 0 where
   no-type : 2 < natAbs alpha → OfBars r alpha M 3 0
   nought : natAbs alpha ≤ 2 → r ≡ 0 → OfBars r alpha M 8 0
@@ -163,7 +174,7 @@ pub data OfBars (r : ℕ) (alpha : ℤ) (M : ℕ) : ℕ → ℕ → Type 0 where
 
 -- ---- the running meter
 
--- it does not hold together
+-- the meter does not hold together
 pub data Broken (x : Meter) : Type 0 where
   factor : Outside 1 10922 (x .m) → Broken x
   accepted : 32768 < x .n → Broken x
@@ -179,23 +190,28 @@ pub data BrokenWith (x : Meter) (ring : List ℤ) : Type 0 where
   twice : 2 * x .m ≤ x .n → OutOfRange ring ((x .n - 2 * x .m) % (3 * x .m)) → BrokenWith x ring
   thrice : 3 * x .m ≤ x .n → OutOfRange ring ((x .n - 3 * x .m) % (3 * x .m)) → BrokenWith x ring
 
+-- Meter::start; never 7
 pub data OfStart (m : ℕ) (ring : List ℤ) : ℕ → ℕ → Type 0 where
   factor : Outside 1 10922 m → OfStart m ring 5 0
   short : Between 1 10922 m → length ring < 3 * m → OfStart m ring 6 0
 
+-- Meter::sample
 pub data OfSample (x : Meter) (ring : List ℤ) (v : ℤ) : ℕ → ℕ → Type 0 where
   broken : BrokenWith x ring → OfSample x ring v 7 0
   many : (BrokenWith x ring → ⊥) → x .n ≡ 32768 → OfSample x ring v 2 0
   range : (BrokenWith x ring → ⊥) → x .n < 32768 → 2 ^ 40 < natAbs v → OfSample x ring v 3 0
 
+-- Meter::report
 pub data OfReport (x : Meter) : ℕ → ℕ → Type 0 where
   broken : Broken x → OfReport x 7 0
 
 -- ---- the record file, of kind 0 or 1
 
+-- a count above the kind's
 abbrev pub TooMany : ℕ → ℕ → Type 0
 TooMany kind count = ((kind ≡ 0) × (32768 < count)) ⊎ ((kind ≡ 1) × (32767 < count))
 
+-- a value outside the kind's range
 abbrev pub FarValue : ℕ → ℤ → Type 0
 FarValue kind z = ((kind ≡ 0) × (2 ^ 40 < natAbs z)) ⊎ ((kind ≡ 1) × (2 ^ 41 < natAbs z))
 
@@ -204,14 +220,17 @@ abbrev pub Right : ℕ → ℕ → Type 0
 Right k b = (k ≡ 0 → b ≡ 0x50) × (k ≡ 1 → b ≡ 0x48) × (k ≡ 2 → b ≡ 0x52) × (k ≡ 3 → b ≡ 1) × (k ≡ 4 → b ≡ 0) × (k ≡ 5 → b ≤ 1)
 
 module _ (bytes : List ℕ) (room : ℕ) where
+  -- byte k of the header is wrong
   abbrev pub Wrong : ℕ → Type 0
   Wrong k = Right k (getD bytes k 0) → ⊥
 
+  -- read_file, up to the count: among the header's bytes that are there, then the length if that is under 8
   pub data OfHeader : ℕ → ℕ → Type 0 where
     wrong : {i : ℕ} → First (length bytes) Wrong i → OfHeader 9 i
     short : None (length bytes) Wrong → length bytes < 8 → OfHeader 9 (length bytes)
     many : None (length bytes) Wrong → 8 ≤ length bytes → TooMany (kindOf bytes) (countOf bytes) → OfHeader 2 0
 
+  -- read_file: 9 at the shorter of the true and the right length
   pub data OfReading : ℕ → ℕ → Type 0 where
     header : {n p : ℕ} → OfHeader n p → OfReading n p
     too-short : NoRow OfHeader → length bytes < 8 + 8 * countOf bytes → OfReading 9 (length bytes)
@@ -219,6 +238,7 @@ module _ (bytes : List ℕ) (room : ℕ) where
     no-room : NoRow OfHeader → length bytes ≡ 8 + 8 * countOf bytes → room < countOf bytes → OfReading 6 0
     range : {i : ℕ} → NoRow OfHeader → length bytes ≡ 8 + 8 * countOf bytes → countOf bytes ≤ room → First (countOf bytes) (λ k. FarValue (kindOf bytes) (valueAt bytes (8 + 8 * k))) i → OfReading 3 i
 
+-- write_file
 pub data OfWriting (kind : ℕ) (values : List ℤ) (room : ℕ) : ℕ → ℕ → Type 0 where
   no-kind : 1 < kind → OfWriting kind values room 9 5
   many : TooMany kind (length values) → OfWriting kind values room 2 0
