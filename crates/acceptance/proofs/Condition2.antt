@@ -51,6 +51,10 @@ use Rattle.plot.proofs.dots.allan_dot.Reads as allan-dot
 use Rattle.plot.proofs.dots.allan_dot.Kinds as allan-dot-kinds
 use Rattle.plot.proofs.dots.time_dot.Reads as time-dot
 use Rattle.plot.proofs.dots.time_dot.Kinds as time-dot-kinds
+use Rattle.ploegelster.proofs.drawing.plg_allan_dot.Reads as plg-allan-dot
+use Rattle.ploegelster.proofs.drawing.plg_allan_dot.Kinds as plg-allan-dot-kinds
+use Rattle.ploegelster.proofs.drawing.plg_time_dot.Reads as plg-time-dot
+use Rattle.ploegelster.proofs.drawing.plg_time_dot.Kinds as plg-time-dot-kinds
 use Rattle.noise.specs.Noise.{alphaOf, toldAlpha}
 use Rattle.noise.proofs.noise_type.Reads as noise-type
 use Rattle.noise.proofs.noise_type.Kinds as noise-type-kinds
@@ -65,7 +69,7 @@ use Rattle.phr.proofs.write_file.Reads as write-file
 use Rattle.phr.proofs.write_file.Kinds as write-file-kinds
 use Rattle.acceptance.specs.Figures.{sumIs, fractionIs, squares}
 use Rattle.acceptance.specs.Grounds
-use Rattle.acceptance.specs.Promises.{SumOf, PartsOf, FractionOf, BackAndForth, DotOf, TypeByTable, NoiseOf, BarsOf, DriftRemoved, ReadsBack}
+use Rattle.acceptance.specs.Promises.{SumOf, PartsOf, FractionOf, BackAndForth, DotOf, ToldAs, TypeByTable, NoiseOf, BarsOf, DriftRemoved, ReadsBack}
 use Rattle.acceptance.proofs.Grounding.{answered-none}
 use Rattle.acceptance.proofs.RecordGrounds.{record-agrees, multiple-agrees}
 use Rattle.acceptance.proofs.FigureGrounds.{fraction-agrees, deviation-agrees, dotted-none}
@@ -75,7 +79,7 @@ use Rattle.acceptance.proofs.TypeGrounds.{type-agrees, bars-agree, alph
 use Rattle.acceptance.proofs.RecordTypeGrounds.{record-type-agrees}
 use Rattle.acceptance.proofs.FileGrounds.{reading-agrees}
 use Rattle.acceptance.proofs.Grounds.{allan-sum-grounds, modified-sum-grounds, allan-fraction-grounds, time-fraction-grounds, allan-deviation-grounds, time-deviation-grounds, phase-from-frequency-grounds, frequency-from-phase-grounds, drift-figure-grounds, remove-drift-grounds, float-sums-grounds, drawn-number-grounds, allan-dot-grounds, time-dot-grounds, noise-type-grounds, noise-of-record-grounds, bars-grounds, read-file-grounds}
-use Rattle.acceptance.proofs.PromiseLaws.{allan-sum-of, modified-sum-of, phases-of, differences-of, differences-left, back-and-forth, drift-of, drift-removed, float-sums-of, reads-files-alone, reads-every-file, file-left, write-answered, proper-writable, reads-back, drawn-of, allan-dot-of, time-dot-of, allan-fraction-of, time-fraction-of, allan-deviation-of, time-deviation-of, allan-deviation-of-record, time-deviation-of-record, type-of, noise-of, bars-of}
+use Rattle.acceptance.proofs.PromiseLaws.{allan-sum-of, modified-sum-of, phases-of, differences-of, differences-left, back-and-forth, drift-of, drift-removed, float-sums-of, reads-files-alone, reads-every-file, file-left, write-answered, proper-writable, reads-back, drawn-of, dot-told, allan-dot-of, time-dot-of, allan-fraction-of, time-fraction-of, allan-deviation-of, time-deviation-of, allan-deviation-of-record, time-deviation-of-record, type-of, noise-of, bars-of}
 use Rattle.acceptance.proofs.Figures.{starred-figures}
 
 -- ---- the published sums: x the record, N its length, m the factor
@@ -210,6 +214,17 @@ pub time-dot-too-few : Always 0 time-dot-kinds.ps time-dot-kinds.r time-dot.Post
     (z .number ≡ 0) × (z .dot ≡ TooFew) × (dotNumber (z .dot) ≡ 1) × (dotValue (z .dot) ≡ plusZero))
 unfolding dotNumber dotValue
 time-dot-too-few κs args z w is least most none = rw (is, none) (rw (time-too-few _ _ least most) (refl, refl, refl, refl))
+
+-- In C a dot is told as its kind, 0 nought, 1 drawn, 2 too few, and the value that it stands for.
+pub allan-dot-told : Always 0 allan-dot-kinds.ps allan-dot-kinds.r allan-dot.Post
+    (λ κs args z w. Always 0 plg-allan-dot-kinds.ps plg-allan-dot-kinds.r plg-allan-dot.Post
+    (λ κs′ args′ z′ w′. args′ ≡ args → ToldAs (z .dot) (z′ .kind) (z′ .value)))
+allan-dot-told κs args z w is κs′ args′ z′ w′ is′ same = rw (is′, same, ← is) (dot-told z)
+
+pub time-dot-told : Always 0 time-dot-kinds.ps time-dot-kinds.r time-dot.Post
+    (λ κs args z w. Always 0 plg-time-dot-kinds.ps plg-time-dot-kinds.r plg-time-dot.Post
+    (λ κs′ args′ z′ w′. args′ ≡ args → ToldAs (z .dot) (z′ .kind) (z′ .value)))
+time-dot-told κs args z w is κs′ args′ z′ w′ is′ same = rw (is′, same, ← is) (dot-told z)
 
 -- ---- noise types and bars
 

@@ -56,6 +56,9 @@ use Rattle.phr.proofs.WriteCases.{Writable, writable-none}
 use Rattle.phr.proofs.RoundTrip.{accepted-exactly, buffer-has-file, file-is-read, file-answer, values-come-back}
 use Rattle.plot.specs.Drawn.{GreatestDouble, drawnAnswer}
 use Rattle.plot.specs.Dots.{dotNumber, dotValue, dotAnswer}
+use Rattle.plot.specs.declared.dots.Dot.{Dot}
+use Rattle.plot.specs.declared.dots.Dot.the-variants.{Drawn, Nought, TooFew}
+use Rattle.plot.specs.declared.dots.DotAnswer.{DotAnswer}
 use Rattle.plot.proofs.DrawnLaws.{drawn-is-greatest, drawn-given}
 use Rattle.plot.proofs.DotLaws.{nought-dot, drawn-dot}
 use Rattle.noise.specs.Noise.{alphaOf, kappaOf, noiseOf, noiseRefusal, toldAlpha, typeAnswer, timeDeviation, recordTypeAnswer}
@@ -64,10 +67,11 @@ use Rattle.noise.specs.declared.Noise.{Noise}
 use Rattle.noise.specs.declared.Noise.the-variants.{WhitePhase, FlickerPhase, WhiteFrequency, FlickerFrequency, RandomWalkFrequency}
 use Rattle.noise.proofs.NoiseLaws.{noiseDemand, noise-given, sound-at-factor, sound-at-double}
 use Rattle.noise.proofs.BarLaws.{unrefused-barred, half-is-greatest, half-within}
+use Rattle.ploegelster.specs.Boundary.{dotKind, toldDot}
 use Rattle.acceptance.specs.Grounds
 use Rattle.acceptance.specs.Grounds.{NoRow, OfDrawn}
 use Rattle.acceptance.specs.Promises
-use Rattle.acceptance.specs.Promises.{SumOf, PartsOf, FractionOf, BackAndForth, DotOf, TypeByTable, NoiseOf, Kappa, BarsOf, DriftRemoved, ReadsBack}
+use Rattle.acceptance.specs.Promises.{SumOf, PartsOf, FractionOf, BackAndForth, DotOf, ToldAs, TypeByTable, NoiseOf, Kappa, BarsOf, DriftRemoved, ReadsBack}
 
 -- ---- sums, of a record that is not refused
 
@@ -302,6 +306,16 @@ module _ (a d : ℕ) (some : 0 < d) where
       nought = λ e. rw (nought-dot (givenDeviation (deviation a d)) refl e) (refl, refl, refl);
       drawn = λ least. rw (drawn-dot (givenDeviation (deviation a d)) refl (λ e. omega arith)) (refl, refl, drawn-is-greatest least (omega arith));
     })
+
+-- a dot as C has it
+pub dot-told : (d : DotAnswer) → ToldAs (d .dot) (toldDot d .kind) (toldDot d .value)
+unfolding toldDot dotKind dotValue
+dot-told d = by-dot (d .dot)
+  where
+    by-dot : (dot : Dot) → ToldAs dot (dotKind dot) (dotValue dot)
+    by-dot (Drawn v) = Promises.drawn
+    by-dot Nought = Promises.nought
+    by-dot TooFew = Promises.too-few
 
 -- where a deviation is given, its sum, factor and count are allowed, and it is not above 2^62
 module _ (s m count r : ℕ) (nothing : deviationRefusal s m count r ≡ none) where

@@ -5,6 +5,7 @@ use mathlib.Core.Bool.{true, false}
 use mathlib.Core.List.{List}
 use Prim.Native.Nat.{ℕ, _+_, _-_, _*_, _/_, _≤_, _<_, _∣_}
 use lib.Dec.{leb}
+use lib.Ieee.{Float}
 use lib.IntN.{ℤ, pos, negsuc, _+ℤ_, _-ℤ_, _*ℤ_}
 use lib.ListN.{length, take}
 use lib.Signed.{_≤ℤ_, _<ℤ_}
@@ -21,7 +22,7 @@ use Rattle.drift.specs.Drift.{driftP}
 use Rattle.plot.specs.Drawn.{plusZero, GreatestDouble}
 use Rattle.plot.specs.Dots.{dotNumber, dotValue}
 use Rattle.plot.specs.declared.dots.Dot.{Dot}
-use Rattle.plot.specs.declared.dots.Dot.the-variants.{Drawn}
+use Rattle.plot.specs.declared.dots.Dot.the-variants.{Drawn, Nought, TooFew}
 use Rattle.noise.specs.declared.bars.BarsAnswer.{BarsAnswer}
 use Rattle.phr.specs.declared.ReadAnswer.{ReadAnswer}
 use Rattle.acceptance.specs.Noughts.{DotNought}
@@ -64,6 +65,12 @@ pub record DotOf (a d : ℕ) (dot : Dot) : Type 0 where
   pub greatest : Greatest (within a d) r
   pub nought : r ≡ 0 → DotNought dot
   pub drawn : 1 ≤ r → (dot ≡ Drawn (dotValue dot)) × (dotNumber dot ≡ 0) × GreatestDouble r (dotValue dot)
+
+-- a dot as C has it: its kind, and the value that it stands for
+pub data ToldAs : Dot → ℕ → Float → Type 0 where
+  nought : ToldAs Nought 0 plusZero
+  drawn : {v : Float} → ToldAs (Drawn v) 1 v
+  too-few : ToldAs TooFew 2 plusZero
 
 -- ---- noise types and bars
 
