@@ -21,19 +21,24 @@ def source_of(root, crate, function):
     return f"crates/{crate}/src"
 
 
+def function(root, crate, modules):
+    """How the table names a function, of which the last of its modules may be the type that owns it."""
+    owner = modules[-2] + "::" if len(modules) > 1 and modules[-2][0].isupper() else ""
+    return f"`{owner}{modules[-1]}` (`{source_of(root, crate, modules[-1])}`)"
+
+
 def place(root, crate, file, name):
     """How the table names the proof in which an error stands: a function, or a law and its file."""
-    *folders, last = file.split("/")
-    if last != "Proof.antt":
-        return f"`{name}` ({crate} `{last.removesuffix('.antt')}`)"
-    owner = folders[-2] + "::" if len(folders) > 1 and folders[-2][0].isupper() else ""
-    return f"`{owner}{folders[-1]}` (`{source_of(root, crate, folders[-1])}`)"
+    *modules, last = file.split("/")
+    return function(root, crate, modules) if last == "Proof.antt" else f"`{name}` ({crate} `{last.removesuffix('.antt')}`)"
 
 
 def own_errors(root, crate, log):
-    """The proofs with an error of their own, in the log's order."""
+    """The proofs with an error of their own, in the log's order, then functions whose proof was left to the prover and that it did not find."""
     found = re.findall(r"/proofs/(\S+?):\d+:\d+: error: `([^`]+)`: (?!`[^`]+` was not admitted)", log)
-    return list(dict.fromkeys(place(root, crate, file, name) for file, name in found))
+    left = re.findall(r"^fn \w+::([\w:]+): no proof", log, re.M)
+    places = [place(root, crate, file, name) for file, name in found] + [function(root, crate, name.split("::")) for name in left]
+    return list(dict.fromkeys(places))
 
 
 def stated(root):

@@ -11,6 +11,7 @@ LOG = """/x/proofs/AnswerLaws.antt:3:1: error: `sum-refused`: expected type `a`,
 /x/proofs/Meter/start/Proof.antt:5:1: error: `returns`: expected type `a`, but this has type `b`
 """
 LAW = "`sum-refused` (sums `AnswerLaws`)"
+LEFT = "fn sums::published::start: no proof: expected `start-spec`\n"
 FUNCTION = "`Meter::start` (`crates/sums/src/lib.rt`)"
 
 
@@ -36,6 +37,7 @@ CASES = [
     (lacks(row(LAW)), []),
     (lacks(row(FUNCTION)), []),
     (lacks(row("`sum-single` (sums `Unique`)")), [f"docs/STATEMENTS.md should say: {row(LAW)}"]),
+    (lacks(row("`start` (`crates/sums/src/lib.rt`)"), LEFT), []),
     (lacks(""), [f"docs/STATEMENTS.md should say: {row(LAW)}"]),
     (lacks(row(LAW), ""), ["crates/sums/must-fail/place_dropped.edit has no log with an error of its own"]),
 ]

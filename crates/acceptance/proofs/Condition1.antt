@@ -399,7 +399,7 @@ plg-float-sums-is = refl
 pub plg-drawn-number-is : plg-drawn-number.Post ≡ drawn-number.Post
 plg-drawn-number-is = refl
 
--- C has no enum: a dot is told as a kind and a double, whatever dot the entry's contract allows
+-- in C a dot is told as a kind and a double, whatever dot the entry's contract allows
 pub plg-allan-dot-tells : Always 0 plg-allan-dot-kinds.ps plg-allan-dot-kinds.r plg-allan-dot.Post
     (λ κs args z w. (own : DotAnswer) → allan-dot.Post κs args own (atExit (endedOf 0 allan-dot-kinds.ps allan-dot-kinds.r) κs args w) → z ≡ toldDot own)
 plg-allan-dot-tells κs args z w is own other = is ∙ sym (ap toldDot other)
@@ -416,7 +416,7 @@ pub plg-time-dot-settled : Settled 0 plg-time-dot-kinds.ps plg-time-dot-kinds.r 
     (λ κs args z w. Refused (z .number) → (z .kind ≡ 0) × (z .value ≡ plusZero))
 plg-time-dot-settled = (plg-time-dot-single, λ κs args z w is. rw is (told-dot-noughts _))
 
--- C has no enum: a noise type is told as its alpha, and bars take an alpha
+-- in C a noise type is told as its alpha, and bars take an alpha
 pub plg-noise-type-tells : Always 0 plg-noise-type-kinds.ps plg-noise-type-kinds.r plg-noise-type.Post
     (λ κs args z w. (own : NoiseAnswer) → noise-type.Post κs args own (atExit (endedOf 0 noise-type-kinds.ps noise-type-kinds.r) κs args w) → z ≡ toldNoise own)
 plg-noise-type-tells κs args z w is own other = is ∙ sym (ap toldNoise other)

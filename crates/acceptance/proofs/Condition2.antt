@@ -7,7 +7,7 @@ use Prim.Native.Nat.{ℕ, _+_, _-_, _*_, _≤_, _<_}
 use native.Mathlib.Omega.{arith}
 use denote.Ref.{now}
 use lib.Ieee.{nan}
-use lib.IntN.{ℤ, _-ℤ_}
+use lib.IntN.{ℤ, pos, negsuc, _-ℤ_}
 use lib.ListN.{length, getD, take}
 use Rattle.laws.specs.Greatest.{Greatest}
 use Rattle.laws.specs.Lists.{at}
@@ -34,6 +34,7 @@ use Rattle.frequency.proofs.phase_from_frequency.Reads as phase-from-frequency
 use Rattle.frequency.proofs.phase_from_frequency.Kinds as phase-from-frequency-kinds
 use Rattle.frequency.proofs.frequency_from_phase.Reads as frequency-from-phase
 use Rattle.frequency.proofs.frequency_from_phase.Kinds as frequency-from-phase-kinds
+use Rattle.drift.specs.Drift.{withoutDrift}
 use Rattle.drift.proofs.drift_figure.Reads as drift-figure
 use Rattle.drift.proofs.drift_figure.Kinds as drift-figure-kinds
 use Rattle.drift.proofs.remove_drift.Reads as remove-drift
@@ -55,7 +56,13 @@ use Rattle.ploegelster.proofs.drawing.plg_allan_dot.Reads as plg-allan-dot
 use Rattle.ploegelster.proofs.drawing.plg_allan_dot.Kinds as plg-allan-dot-kinds
 use Rattle.ploegelster.proofs.drawing.plg_time_dot.Reads as plg-time-dot
 use Rattle.ploegelster.proofs.drawing.plg_time_dot.Kinds as plg-time-dot-kinds
+use Rattle.ploegelster.specs.Boundary.{toldNoise}
+use Rattle.ploegelster.proofs.drawing.plg_noise_type.Reads as plg-noise-type
+use Rattle.ploegelster.proofs.drawing.plg_noise_type.Kinds as plg-noise-type-kinds
+use Rattle.ploegelster.proofs.drawing.plg_noise_of_record.Reads as plg-noise-of-record
+use Rattle.ploegelster.proofs.drawing.plg_noise_of_record.Kinds as plg-noise-of-record-kinds
 use Rattle.noise.specs.Noise.{alphaOf, toldAlpha}
+use Rattle.noise.specs.declared.Noise.the-variants.{WhitePhase, FlickerPhase, WhiteFrequency, FlickerFrequency, RandomWalkFrequency}
 use Rattle.noise.proofs.noise_type.Reads as noise-type
 use Rattle.noise.proofs.noise_type.Kinds as noise-type-kinds
 use Rattle.noise.proofs.noise_of_record.Reads as noise-of-record
@@ -78,8 +85,8 @@ use Rattle.acceptance.proofs.ReadingGrounds.{readings-agree}
 use Rattle.acceptance.proofs.TypeGrounds.{type-agrees, bars-agree, alpha-within}
 use Rattle.acceptance.proofs.RecordTypeGrounds.{record-type-agrees}
 use Rattle.acceptance.proofs.FileGrounds.{reading-agrees}
-use Rattle.acceptance.proofs.Grounds.{allan-sum-grounds, modified-sum-grounds, allan-fraction-grounds, time-fraction-grounds, allan-deviation-grounds, time-deviation-grounds, phase-from-frequency-grounds, frequency-from-phase-grounds, drift-figure-grounds, remove-drift-grounds, float-sums-grounds, drawn-number-grounds, allan-dot-grounds, time-dot-grounds, noise-type-grounds, noise-of-record-grounds, bars-grounds, read-file-grounds}
-use Rattle.acceptance.proofs.PromiseLaws.{allan-sum-of, modified-sum-of, phases-of, differences-of, differences-left, back-and-forth, drift-of, drift-removed, float-sums-of, reads-files-alone, reads-every-file, file-left, write-answered, proper-writable, reads-back, drawn-of, dot-told, allan-dot-of, time-dot-of, allan-fraction-of, time-fraction-of, allan-deviation-of, time-deviation-of, allan-deviation-of-record, time-deviation-of-record, type-of, noise-of, bars-of}
+use Rattle.acceptance.proofs.Grounds.{allan-sum-grounds, modified-sum-grounds, allan-fraction-grounds, time-fraction-grounds, allan-deviation-grounds, time-deviation-grounds, phase-from-frequency-grounds, frequency-from-phase-grounds, drift-figure-grounds, remove-drift-grounds, float-sums-grounds, drawn-number-grounds, allan-dot-grounds, time-dot-grounds, noise-type-grounds, noise-of-record-grounds, plg-noise-type-grounds, plg-noise-of-record-grounds, bars-grounds, read-file-grounds}
+use Rattle.acceptance.proofs.PromiseLaws.{allan-sum-of, modified-sum-of, phases-of, differences-of, differences-left, back-and-forth, drift-of, result-of, drift-removed, float-sums-of, reads-files-alone, reads-every-file, file-left, write-answered, proper-writable, reads-back, drawn-of, dot-told, allan-dot-of, time-dot-of, allan-fraction-of, time-fraction-of, allan-deviation-of, time-deviation-of, allan-deviation-of-record, time-deviation-of-record, type-of, noise-of, bars-of}
 use Rattle.acceptance.proofs.Figures.{starred-figures}
 
 -- ---- the published sums: x the record, N its length, m the factor
@@ -240,6 +247,25 @@ pub noise-of-record-published : Always 1 noise-of-record-kinds.ps noise-of-recor
 noise-of-record-published κs args z w is answered =
     rw is (noise-of _ _ (answered-none (record-type-agrees _ _) (noise-of-record-grounds κs args z w is) answered))
 
+-- In C the type is told as its alpha.
+pub plg-noise-type-published : Always 0 plg-noise-type-kinds.ps plg-noise-type-kinds.r plg-noise-type.Post
+    (λ κs args z w. let r1 = args .0 in let r2 = args .1 .0 in z .number ≡ 0 → TypeByTable r1 r2 (z .alpha))
+unfolding toldNoise
+plg-noise-type-published κs args z w is answered =
+    rw is (type-of _ _ (answered-none (type-agrees _ _) (plg-noise-type-grounds κs args z w is) answered))
+
+pub plg-noise-of-record-published : Always 1 plg-noise-of-record-kinds.ps plg-noise-of-record-kinds.r plg-noise-of-record.Post
+    (λ κs args z w. let xs = now (args .0) in let m = args .1 .0 in z .number ≡ 0 → NoiseOf m xs (z .alpha))
+unfolding toldNoise
+plg-noise-of-record-published κs args z w is answered =
+    rw is (noise-of _ _ (answered-none (record-type-agrees _ _) (plg-noise-of-record-grounds κs args z w is) answered))
+
+-- The five types by alpha.
+pub types-by-alpha : (alphaOf WhitePhase ≡ pos 2) × (alphaOf FlickerPhase ≡ pos 1) × (alphaOf WhiteFrequency ≡ pos 0) × (alphaOf FlickerFrequency ≡ negsuc 0)
+    × (alphaOf RandomWalkFrequency ≡ negsuc 1)
+unfolding alphaOf
+types-by-alpha = (refl, refl, refl, refl, refl)
+
 -- w, h and the row.
 pub bars-published : Always 0 bars-kinds.ps bars-kinds.r bars.Post
     (λ κs args z w. let r = args .0 in let type = args .1 .0 in let M = args .1 .1 .0 in z .number ≡ 0 → BarsOf r (alphaOf type) M z)
@@ -256,12 +282,17 @@ drift-published κs args z w is answered = rw is (drift-of _ (answered-none (dri
 
 -- Removal, floored once, toward minus infinity.
 pub removal-published : Always 2 remove-drift-kinds.ps remove-drift-kinds.r remove-drift.Post
-    (λ κs args z w. let xs = now (args .0) in let left = w .1 .0 in
-    z .number ≡ 0 → (z .count ≡ length xs) × ((i : ℕ) → i < length xs → DriftRemoved xs left i))
+    (λ κs args z w. let xs = now (args .0) in let left = w .1 .0 in let P = (at xs (length xs - 1) -ℤ at xs (length xs - 2)) -ℤ (at xs 1 -ℤ at xs 0) in
+    z .number ≡ 0 → (z .count ≡ length xs) × ((i : ℕ) → i < length xs → DriftRemoved P (length xs - 2) i (at xs i) (at left i)))
 removal-published κs args z w is answered =
     let grounds = remove-drift-grounds κs args z w is in
     let enough : length (now (args .0)) < 3 → ⊥ = λ h. grounds .answered answered .1 1 0 (Grounds.few h) in
     rw (is .0, is .1) (drift-removed (now (args .0)) (omega arith) (now (args .1 .0)) (answered-none (removal-agrees _ _) grounds answered))
+
+-- What its table of grounds calls a result, refused or not, is that.
+pub results-published : (xs : List ℤ) → 3 ≤ length xs → let P = (at xs (length xs - 1) -ℤ at xs (length xs - 2)) -ℤ (at xs 1 -ℤ at xs 0) in
+    (i : ℕ) → i < length xs → DriftRemoved P (length xs - 2) i (at xs i) (at (withoutDrift xs) i)
+results-published = result-of
 
 -- ---- the record file
 

@@ -24,7 +24,7 @@ use Rattle.phr.proofs.HeaderLaws.{no-test-past-kind, passed-before}
 use Rattle.phr.proofs.ReadCases.{sound-within, header-wrong, too-many-values, file-too-short, file-too-long, no-room-for-values, value-outside, values-of-length}
 use Rattle.phr.proofs.WriteCases.{no-such-kind, too-many-to-write, no-room-for-file, value-unfit}
 use Rattle.acceptance.specs.Grounds
-use Rattle.acceptance.specs.Grounds.{NoRow, Grounded, First, None, TooMany, FarValue, Right, Wrong, OfHeader, OfReading, OfWriting}
+use Rattle.acceptance.specs.Grounds.{NoRow, Grounded, First, None, TooMany, FarValue, Right, Wrong, OfHeader, OfFile, OfWriting}
 use Rattle.acceptance.proofs.Grounding.{Decided, Stands, Agrees, decide, decide-last, grounded-answer}
 use Rattle.acceptance.proofs.RecordGrounds.{first-is, first-there}
 
@@ -230,7 +230,7 @@ module _ (bytes : List ℕ) (room : ℕ) where
   unfolding valuesOf
   entry-is k inside = tabulate-entry (countOf bytes) value (pos 0) k inside
 
-  reading-stands : {number place : ℕ} → OfReading bytes room number place → Stands number place (readRefusal bytes room)
+  reading-stands : {number place : ℕ} → OfFile bytes room number place → Stands number place (readRefusal bytes room)
   reading-stands (Grounds.header row) = header-stands row
   reading-stands (Grounds.too-short rowless h) =
       (λ e. omega arith, file-too-short bytes room (rowless-sound rowless) (rowless-few rowless) h)
@@ -247,10 +247,10 @@ module _ (bytes : List ℕ) (room : ℕ) where
   abbrev asked : ℕ
   asked = 8 + 8 * countOf bytes
 
-  wrong-length-row : NoRow (OfHeader bytes room) → (length bytes ≡ asked → ⊥) → OfReading bytes room 9 (min (length bytes) asked)
+  wrong-length-row : NoRow (OfHeader bytes room) → (length bytes ≡ asked → ⊥) → OfFile bytes room 9 (min (length bytes) asked)
   wrong-length-row rowless wrong = by-length (ltb (length bytes) asked) refl
     where
-      by-length : (short : Bool) → ltb (length bytes) asked ≡ short → OfReading bytes room 9 (min (length bytes) asked)
+      by-length : (short : Bool) → ltb (length bytes) asked ≡ short → OfFile bytes room 9 (min (length bytes) asked)
       by-length true t =
           let short = ltb-true (length bytes) asked t in
           let least : min (length bytes) asked ≡ length bytes = min-eq-left (omega arith) in
@@ -260,7 +260,7 @@ module _ (bytes : List ℕ) (room : ℕ) where
           let least : min (length bytes) asked ≡ asked = min-eq-right (omega arith) in
           rw least (Grounds.too-long rowless (omega arith))
 
-  reading-decided : Decided (OfReading bytes room) (readRefusal bytes room)
+  reading-decided : Decided (OfFile bytes room) (readRefusal bytes room)
   unfolding readRefusal
   reading-decided =
       decide _ 9 _ (omega arith) (λ t. Grounds.header (unsound-row (ltb-true _ 8 t))) _
@@ -275,9 +275,9 @@ module _ (bytes : List ℕ) (room : ℕ) where
       (λ t. Grounds.range rowless whole (ltb-false room (countOf bytes) v)
       (found-is-first (kindOf bytes) (valuesOf bytes) (countOf bytes) value known (values-of-length bytes) entry-is t))))))
 
-  pub reading-agrees : Agrees (OfReading bytes room) (readRefusal bytes room)
+  pub reading-agrees : Agrees (OfFile bytes room) (readRefusal bytes room)
   reading-agrees = record { stands = reading-stands; decided = reading-decided }
 
-  pub reading-grounded : Grounded (OfReading bytes room) (readAnswer bytes room .number) (readAnswer bytes room .place)
+  pub reading-grounded : Grounded (OfFile bytes room) (readAnswer bytes room .number) (readAnswer bytes room .place)
   unfolding readAnswer
   reading-grounded = grounded-answer reading-agrees (λ (a : ReadAnswer). a .number) (λ a. a .place) _ _ (refl, refl) (refl, refl)

@@ -71,7 +71,7 @@ use Rattle.ploegelster.proofs.drawing.plg_time_dot.Reads as plg-time-dot
 use Rattle.ploegelster.proofs.drawing.plg_time_dot.Kinds as plg-time-dot-kinds
 use Rattle.ploegelster.proofs.drawing.plg_bars.Reads as plg-bars
 use Rattle.ploegelster.proofs.drawing.plg_bars.Kinds as plg-bars-kinds
-use Rattle.acceptance.specs.Grounds.{Grounded, OfRange, OfSize, OfRecord, OfFraction, OfDeviation, OfDot, OfPhases, OfDifferences, OfDrift, OfRemoval, OfReadings, OfRecordType, OfDrawn, OfType, OfBars, OfStart, OfSample, OfReport, OfReading, OfWriting}
+use Rattle.acceptance.specs.Grounds.{Grounded, OfRange, OfSize, OfRecord, OfFraction, OfDeviation, OfDot, OfPhases, OfDifferences, OfDrift, OfRemoval, OfReadings, OfRecordType, OfDrawn, OfType, OfBars, OfStart, OfSample, OfReport, OfFile, OfWriting}
 use Rattle.acceptance.proofs.Grounding.{refusal-grounded}
 use Rattle.acceptance.proofs.RecordGrounds.{size-agrees, range-agrees, record-agrees, multiple-agrees, sum-grounded}
 use Rattle.acceptance.proofs.FigureGrounds.{fraction-agrees, deviation-agrees, fraction-grounded, deviation-grounded, dot-grounded}
@@ -212,7 +212,7 @@ meter-report-grounds κs args z w is = rw is (report-grounded _)
 -- ---- phr
 
 pub read-file-grounds : Always 2 read-file-kinds.ps read-file-kinds.r read-file.Post
-    (λ κs args z w. let bytes = now (args .0) in let buffer = now (args .1 .0) in Grounded (OfReading bytes (length buffer)) (z .number) (z .place))
+    (λ κs args z w. let bytes = now (args .0) in let buffer = now (args .1 .0) in Grounded (OfFile bytes (length buffer)) (z .number) (z .place))
 read-file-grounds κs args z w is = rw (is .0) (reading-grounded _ _)
 
 pub write-file-grounds : Always 2 write-file-kinds.ps write-file-kinds.r write-file.Post

@@ -177,26 +177,31 @@ module _ (xs : List ℤ) where
   unfolding driftAnswer driftR driftP
   drift-of nothing = rw nothing (refl, refl)
 
-  module _ (enough : 3 ≤ length xs) (buffer : List ℤ) (nothing : removalRefusal xs (length buffer) ≡ none) where
-    abbrev result : List ℤ
-    result = bufferLeft (removalRefusal xs (length buffer)) (withoutDrift xs) buffer
+  -- P written out
+  abbrev pub slope : ℤ
+  slope = (at xs (length xs - 1) -ℤ at xs (length xs - 2)) -ℤ (at xs 1 -ℤ at xs 0)
 
+  module _ (enough : 3 ≤ length xs) where
     -- what is taken off sample i
-    taken-off : (i : ℕ) → i < length xs → at xs i -ℤ at result i ≡ floored (driftP xs *ℤ pos (i * (i - 1))) (2 * (length xs - 2))
-    unfolding withoutDrift driftR
+    taken-off : (i : ℕ) → i < length xs → at xs i -ℤ at (withoutDrift xs) i ≡ floored (slope *ℤ pos (i * (i - 1))) (2 * (length xs - 2))
+    unfolding withoutDrift driftP driftR
     taken-off i inside =
-        let off = floored (driftP xs *ℤ pos (i * (i - 1))) (2 * (length xs - 2)) in
-        let entry : at result i ≡ at xs i -ℤ off =
-        output-entry nothing (length xs) (withoutDrift xs) buffer i (pos 0) (omega (arith, without-drift-length xs))
-        ∙ tabulate-entry (length xs) (λ k. at xs k -ℤ floored (driftP xs *ℤ pos (k * (k - 1))) (2 * (length xs - 2))) (pos 0) i inside in
-        ap (λ (y : ℤ). at xs i -ℤ y) entry ∙ equation ($ at xs i ⊖ ($ at xs i ⊖ $ off)) ($ off) (omega arith)
+        let off = floored (slope *ℤ pos (i * (i - 1))) (2 * (length xs - 2)) in
+        ap (λ (y : ℤ). at xs i -ℤ y) (tabulate-entry (length xs) (λ k. at xs k -ℤ floored (slope *ℤ pos (k * (k - 1))) (2 * (length xs - 2))) (pos 0) i inside)
+        ∙ equation ($ at xs i ⊖ ($ at xs i ⊖ $ off)) ($ off) (omega arith)
 
-    pub drift-removed : (countAnswer (removalRefusal xs (length buffer)) (length xs) .count ≡ length xs) × ((i : ℕ) → i < length xs → DriftRemoved xs result i)
-    drift-removed =
-        let some : 0 < 2 * (length xs - 2) = omega arith in (
-          count-of nothing (length xs) (withoutDrift xs) buffer,
-          λ i inside. record { not-above = rw (taken-off i inside) (floored-at-most _ some _); next-above = rw (taken-off i inside) (one-more-above _ some _) },
-        )
+    pub result-of : (i : ℕ) → i < length xs → DriftRemoved slope (length xs - 2) i (at xs i) (at (withoutDrift xs) i)
+    result-of i inside =
+        let some : 0 < 2 * (length xs - 2) = omega arith in
+        record { not-above = rw (taken-off i inside) (floored-at-most _ some _); next-above = rw (taken-off i inside) (one-more-above _ some _) }
+
+    pub drift-removed : (buffer : List ℤ) → removalRefusal xs (length buffer) ≡ none →
+        (countAnswer (removalRefusal xs (length buffer)) (length xs) .count ≡ length xs)
+        × ((i : ℕ) → i < length xs → DriftRemoved slope (length xs - 2) i (at xs i) (at (bufferLeft (removalRefusal xs (length buffer)) (withoutDrift xs) buffer) i))
+    drift-removed buffer nothing = (
+      count-of nothing (length xs) (withoutDrift xs) buffer,
+      λ i inside. rw (output-entry nothing (length xs) (withoutDrift xs) buffer i (pos 0) (omega (arith, without-drift-length xs))) (result-of i inside),
+    )
 
 -- ---- float readings
 

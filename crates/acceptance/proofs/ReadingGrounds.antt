@@ -31,9 +31,9 @@ far-is-three : {x : Float} → TooFar x → readingNumber x ≡ 3
 far-is-three (Grounds.infinite {s} e) = ap readingNumber e ∙ infinite-is-three s
 far-is-three {x} (Grounds.beyond s a c some value above) = beyond-the-range x s a c some value above
 
-uneven-is-four : {x : Float} → NotWhole x → readingNumber x ≡ 4
-uneven-is-four (Grounds.no-number e) = ap readingNumber e ∙ not-a-number-is-four
-uneven-is-four {x} (Grounds.fraction s a c some value within rest) = fraction-in-range x s a c some value within rest
+not-whole-is-four : {x : Float} → NotWhole x → readingNumber x ≡ 4
+not-whole-is-four (Grounds.no-number e) = ap readingNumber e ∙ not-a-number-is-four
+not-whole-is-four {x} (Grounds.fraction s a c some value within rest) = fraction-in-range x s a c some value within rest
 
 -- a reading is a sample, or too far, or not whole
 kinds : (x : Float) → (readingNumber x ≡ 0 → ⊥) → TooFar x ⊎ NotWhole x
@@ -58,7 +58,7 @@ module _ (xs : List Float) where
 
   no-sample-fails : (k : ℕ) → k < length xs → NoSample xs k → isSample (getD xs k nan) ≡ false
   no-sample-fails k inside (inl far) = ne-eqb (readingNumber (getD xs k nan)) 0 (λ e. omega (arith, far-is-three far))
-  no-sample-fails k inside (inr uneven) = ne-eqb (readingNumber (getD xs k nan)) 0 (λ e. omega (arith, uneven-is-four uneven))
+  no-sample-fails k inside (inr not-whole) = ne-eqb (readingNumber (getD xs k nan)) 0 (λ e. omega (arith, not-whole-is-four not-whole))
 
   reading-refused : {i number : ℕ} → First (length xs) (NoSample xs) i → readingNumber (getD xs i nan) ≡ number → readingRefusal xs ≡ refused number i
   reading-refused {i} first is =
@@ -66,7 +66,7 @@ module _ (xs : List Float) where
 
   module _ {Row : ℕ → ℕ → Type 0}
       (far : (i : ℕ) → First (length xs) (NoSample xs) i → TooFar (getD xs i nan) → Row 3 i)
-      (uneven : (i : ℕ) → First (length xs) (NoSample xs) i → NotWhole (getD xs i nan) → Row 4 i) where
+      (not-whole : (i : ℕ) → First (length xs) (NoSample xs) i → NotWhole (getD xs i nan) → Row 4 i) where
     readings-decided : Decided Row (readingRefusal xs)
     unfolding readingRefusal
     readings-decided = by-test (ltb place (length xs)) refl
@@ -76,7 +76,7 @@ module _ (xs : List Float) where
 
         by-kind : First (length xs) (NoSample xs) place → NoSample xs place → Decided Row (refused (readingNumber (getD xs place nan)) place)
         by-kind first (inl is) = rw (far-is-three is) (Grounding.something (λ e. omega arith) (far place first is))
-        by-kind first (inr is) = rw (uneven-is-four is) (Grounding.something (λ e. omega arith) (uneven place first is))
+        by-kind first (inr is) = rw (not-whole-is-four is) (Grounding.something (λ e. omega arith) (not-whole place first is))
 
         by-test : (t : Bool) → ltb place (length xs) ≡ t → Decided Row (refusedIf t (readingNumber (getD xs place nan)) place)
         by-test true t = let first = first-there isSample nan xs refl no-sample no-sample-fails t in by-kind first (first .bad)
@@ -97,8 +97,8 @@ module _ (m : ℕ) (xs : List Float) (room : ℕ) where
   readings-stand (Grounds.no-room rowless h) = (λ e. omega arith, no-room m xs room (size-none rowless) h)
   readings-stand (Grounds.far rowless enough first is) =
       (λ e. omega arith, readings-decide m xs room (size-none rowless) enough ∙ reading-refused xs first (far-is-three is))
-  readings-stand (Grounds.uneven rowless enough first is) =
-      (λ e. omega arith, readings-decide m xs room (size-none rowless) enough ∙ reading-refused xs first (uneven-is-four is))
+  readings-stand (Grounds.not-whole rowless enough first is) =
+      (λ e. omega arith, readings-decide m xs room (size-none rowless) enough ∙ reading-refused xs first (not-whole-is-four is))
 
   pub readings-agree : Agrees (OfReadings m xs room) (floatRefusal m xs room)
   unfolding floatRefusal
@@ -107,7 +107,7 @@ module _ (m : ℕ) (xs : List Float) (room : ℕ) where
     decided = decide-after _ _ (decided-by (λ n p. Grounds.size) (sized .decided))
         (λ clear. let rowless = none-rowless sized (rw clear) in
         decide _ 6 0 (omega arith) (λ t. Grounds.no-room rowless (ltb-true room (length xs) t)) _
-        (λ f. let enough = ltb-false room (length xs) f in readings-decided xs (λ i. Grounds.far rowless enough) (λ i. Grounds.uneven rowless enough)));
+        (λ f. let enough = ltb-false room (length xs) f in readings-decided xs (λ i. Grounds.far rowless enough) (λ i. Grounds.not-whole rowless enough)));
   }
 
   pub readings-grounded : Grounded (OfReadings m xs room) (floatAnswer m xs room .number) (floatAnswer m xs room .place)

@@ -1,4 +1,4 @@
--- The starred figures of the rules, a row each, over what the entries answer: answers whole, with the lent buffer as it is left.
+-- The starred figures of the rules, a row each, over what the entries answer, with the lent buffer as it is left.
 use mathlib.Core.Path.{_≡_}
 use mathlib.Core.Bool.{false}
 use mathlib.Core.List.{List, [], _∷_}
@@ -76,6 +76,7 @@ pub record Starred : Type 0 where
   pub spike-modified : Modified 2 spike 8 2 1 6
   pub ends : allanSumAnswer 1 (pos (2 ^ 40) ∷ negsuc (2 ^ 40 - 1) ∷ pos (2 ^ 40) ∷ [])
       ≡ record { number = 0; place = 0; sum = record { hi = 2 ^ 20; lo = 0 }; count = 1 }
+  -- the lent buffer held byTurns
   pub phased : let ys : List ℤ = pos 3 ∷ negsuc 0 ∷ pos 4 ∷ [] in Fills (phaseRefusal ys 5) 4 (phases ys) byTurns (pos 0 ∷ pos 3 ∷ pos 2 ∷ pos 6 ∷ pos 0 ∷ [])
   pub squares-drift : Drift squares (pos 8) 4 (pos 0 ∷ pos 1 ∷ pos 2 ∷ pos 3 ∷ pos 4 ∷ pos 5 ∷ [])
   pub falling-drift : Drift (pos 0 ∷ pos 0 ∷ pos 0 ∷ negsuc 0 ∷ []) (negsuc 0) 2 (pos 0 ∷ pos 0 ∷ pos 1 ∷ pos 1 ∷ [])

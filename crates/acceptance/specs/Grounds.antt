@@ -1,6 +1,6 @@
--- The ground of every refusal, a table for each family of entries, to be held against the rules (docs/RULES.md) line by line. A row is a line: what
--- must hold, no earlier row among it, then the number and the place. Written from the rules, in bounds and relations; no definition of a refusal that
--- the contracts cite stands here.
+-- The ground of every refusal, a table for each family of entries, to be held against the rules (docs/RULES.md) row by row. A row says what must hold,
+-- among it that no earlier row does, then the number and the place. Written from the rules, in bounds and relations, and not by the definitions of
+-- refusals that the contracts cite.
 use mathlib.Core.Path.{_≡_}
 use mathlib.Core.Bool.{Bool}
 use mathlib.Core.List.{List}
@@ -146,7 +146,7 @@ module _ (m : ℕ) (xs : List Float) (room : ℕ) where
     size : {n p : ℕ} → OfSize 10922 (2 * m + 1) m (length xs) n p → OfReadings n p
     no-room : NoRow (OfSize 10922 (2 * m + 1) m (length xs)) → room < length xs → OfReadings 6 0
     far : {i : ℕ} → NoRow (OfSize 10922 (2 * m + 1) m (length xs)) → length xs ≤ room → First (length xs) (NoSample xs) i → TooFar (getD xs i nan) → OfReadings 3 i
-    uneven : {i : ℕ} → NoRow (OfSize 10922 (2 * m + 1) m (length xs)) → length xs ≤ room → First (length xs) (NoSample xs) i → NotWhole (getD xs i nan) → OfReadings 4 i
+    not-whole : {i : ℕ} → NoRow (OfSize 10922 (2 * m + 1) m (length xs)) → length xs ≤ room → First (length xs) (NoSample xs) i → NotWhole (getD xs i nan) → OfReadings 4 i
 
 -- ---- drawn numbers, noise types and bars
 
@@ -231,12 +231,12 @@ module _ (bytes : List ℕ) (room : ℕ) where
     many : None (length bytes) Wrong → 8 ≤ length bytes → TooMany (kindOf bytes) (countOf bytes) → OfHeader 2 0
 
   -- read_file: 9 at the shorter of the true and the right length
-  pub data OfReading : ℕ → ℕ → Type 0 where
-    header : {n p : ℕ} → OfHeader n p → OfReading n p
-    too-short : NoRow OfHeader → length bytes < 8 + 8 * countOf bytes → OfReading 9 (length bytes)
-    too-long : NoRow OfHeader → 8 + 8 * countOf bytes < length bytes → OfReading 9 (8 + 8 * countOf bytes)
-    no-room : NoRow OfHeader → length bytes ≡ 8 + 8 * countOf bytes → room < countOf bytes → OfReading 6 0
-    range : {i : ℕ} → NoRow OfHeader → length bytes ≡ 8 + 8 * countOf bytes → countOf bytes ≤ room → First (countOf bytes) (λ k. FarValue (kindOf bytes) (valueAt bytes (8 + 8 * k))) i → OfReading 3 i
+  pub data OfFile : ℕ → ℕ → Type 0 where
+    header : {n p : ℕ} → OfHeader n p → OfFile n p
+    too-short : NoRow OfHeader → length bytes < 8 + 8 * countOf bytes → OfFile 9 (length bytes)
+    too-long : NoRow OfHeader → 8 + 8 * countOf bytes < length bytes → OfFile 9 (8 + 8 * countOf bytes)
+    no-room : NoRow OfHeader → length bytes ≡ 8 + 8 * countOf bytes → room < countOf bytes → OfFile 6 0
+    range : {i : ℕ} → NoRow OfHeader → length bytes ≡ 8 + 8 * countOf bytes → countOf bytes ≤ room → First (countOf bytes) (λ k. FarValue (kindOf bytes) (valueAt bytes (8 + 8 * k))) i → OfFile 3 i
 
 -- write_file
 pub data OfWriting (kind : ℕ) (values : List ℤ) (room : ℕ) : ℕ → ℕ → Type 0 where

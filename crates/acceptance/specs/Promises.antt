@@ -18,7 +18,6 @@ use Rattle.record.specs.declared.CountAnswer.{CountAnswer}
 use Rattle.sums.specs.Published.{allanSum, modifiedSum}
 use Rattle.sums.specs.declared.Part.{Part}
 use Rattle.variances.specs.Deviations.{within}
-use Rattle.drift.specs.Drift.{driftP}
 use Rattle.plot.specs.Drawn.{plusZero, GreatestDouble}
 use Rattle.plot.specs.Dots.{dotNumber, dotValue}
 use Rattle.plot.specs.declared.dots.Dot.{Dot}
@@ -112,10 +111,10 @@ pub record BarsOf (r : ℕ) (alpha : ℤ) (M : ℕ) (z : BarsAnswer) : Type 0 wh
 
 -- ---- drift
 
--- removal takes q off sample i, the floor of P i (i-1) / (2R) toward minus infinity: 2R q is not above P i (i-1), 2R (q+1) is
-pub record DriftRemoved (xs left : List ℤ) (i : ℕ) : Type 0 where
-  pub not-above : ((at xs i -ℤ at left i) *ℤ pos (2 * (length xs - 2))) ≤ℤ (driftP xs *ℤ pos (i * (i - 1)))
-  pub next-above : (driftP xs *ℤ pos (i * (i - 1))) <ℤ (((at xs i -ℤ at left i) +ℤ pos 1) *ℤ pos (2 * (length xs - 2)))
+-- y is sample x_i without the drift P over R: q = x_i - y is the floor of P i (i-1) / (2R) toward minus infinity, 2R q is not above P i (i-1), 2R (q+1) is
+pub record DriftRemoved (P : ℤ) (R i : ℕ) (x y : ℤ) : Type 0 where
+  pub not-above : ((x -ℤ y) *ℤ pos (2 * R)) ≤ℤ (P *ℤ pos (i * (i - 1)))
+  pub next-above : (P *ℤ pos (i * (i - 1))) <ℤ (((x -ℤ y) +ℤ pos 1) *ℤ pos (2 * R))
 
 -- ---- the record file
 
