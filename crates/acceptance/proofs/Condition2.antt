@@ -2,7 +2,7 @@
 -- crates/laws/specs/Single.antt) where the call is answered, which Grounds.antt tells exactly; what is promised of a result stands in
 -- specs/Promises.antt. The exported functions have the same contracts (Condition1.antt, NAME-is), or tell the same answers in numbers (NAME-tells).
 use mathlib.Core.Path.{_≡_, refl, _∙_, ap}
-use mathlib.Core.List.{List}
+use mathlib.Core.List.{List, [], _∷_}
 use Prim.Native.Nat.{ℕ, _+_, _-_, _*_, _≤_, _<_}
 use native.Mathlib.Omega.{arith}
 use denote.Ref.{now}
@@ -69,7 +69,7 @@ use Rattle.noise.proofs.noise_of_record.Reads as noise-of-record
 use Rattle.noise.proofs.noise_of_record.Kinds as noise-of-record-kinds
 use Rattle.noise.proofs.bars.bars.Reads as bars
 use Rattle.noise.proofs.bars.bars.Kinds as bars-kinds
-use Rattle.phr.specs.File.{fileOf, Proper, IsFile, AreBytes}
+use Rattle.phr.specs.File.{fileOf, IsFile, AreBytes}
 use Rattle.phr.proofs.read_file.Reads as read-file
 use Rattle.phr.proofs.read_file.Kinds as read-file-kinds
 use Rattle.phr.proofs.write_file.Reads as write-file
@@ -84,9 +84,9 @@ use Rattle.acceptance.proofs.BufferGrounds.{phases-agree, differences-a
 use Rattle.acceptance.proofs.ReadingGrounds.{readings-agree}
 use Rattle.acceptance.proofs.TypeGrounds.{type-agrees, bars-agree, alpha-within}
 use Rattle.acceptance.proofs.RecordTypeGrounds.{record-type-agrees}
-use Rattle.acceptance.proofs.FileGrounds.{reading-agrees}
-use Rattle.acceptance.proofs.Grounds.{allan-sum-grounds, modified-sum-grounds, allan-fraction-grounds, time-fraction-grounds, allan-deviation-grounds, time-deviation-grounds, phase-from-frequency-grounds, frequency-from-phase-grounds, drift-figure-grounds, remove-drift-grounds, float-sums-grounds, drawn-number-grounds, allan-dot-grounds, time-dot-grounds, noise-type-grounds, noise-of-record-grounds, plg-noise-type-grounds, plg-noise-of-record-grounds, bars-grounds, read-file-grounds}
-use Rattle.acceptance.proofs.PromiseLaws.{allan-sum-of, modified-sum-of, phases-of, differences-of, differences-left, back-and-forth, drift-of, result-of, drift-removed, float-sums-of, reads-files-alone, reads-every-file, file-left, write-answered, proper-writable, reads-back, drawn-of, dot-told, allan-dot-of, time-dot-of, allan-fraction-of, time-fraction-of, allan-deviation-of, time-deviation-of, allan-deviation-of-record, time-deviation-of-record, type-of, noise-of, bars-of}
+use Rattle.acceptance.proofs.FileGrounds.{writing-agrees, reading-agrees}
+use Rattle.acceptance.proofs.Grounds.{allan-sum-grounds, modified-sum-grounds, allan-fraction-grounds, time-fraction-grounds, allan-deviation-grounds, time-deviation-grounds, phase-from-frequency-grounds, frequency-from-phase-grounds, drift-figure-grounds, remove-drift-grounds, float-sums-grounds, drawn-number-grounds, allan-dot-grounds, time-dot-grounds, noise-type-grounds, noise-of-record-grounds, plg-noise-type-grounds, plg-noise-of-record-grounds, bars-grounds, read-file-grounds, write-file-grounds}
+use Rattle.acceptance.proofs.PromiseLaws.{allan-sum-of, modified-sum-of, phases-of, differences-of, differences-left, back-and-forth, drift-of, result-of, drift-removed, float-sums-of, reads-files-alone, reads-every-file, file-left, one-value-file, written-proper, reads-back, drawn-of, dot-told, allan-dot-of, time-dot-of, allan-fraction-of, time-fraction-of, allan-deviation-of, time-deviation-of, allan-deviation-of-record, time-deviation-of-record, type-of, noise-of, bars-of}
 use Rattle.acceptance.proofs.Figures.{starred-figures}
 
 -- ---- the published sums: x the record, N its length, m the factor
@@ -296,19 +296,23 @@ results-published = result-of
 
 -- ---- the record file
 
--- What is written is read: a kind and values that a file may hold are never refused, and reading what the call wrote gives both back.
+-- What is written is read: reading what an answered call wrote gives the kind and the values back.
 pub file-read-of-written : Always 2 write-file-kinds.ps write-file-kinds.r write-file.Post
     (λ κs args z w. let kind = args .0 in let values = now (args .1 .0) in let written = w .1 .1 .0 in
-    Proper kind values → 8 + 8 * length values ≤ length (now (args .1 .1 .0)) → (z .number ≡ 0) × Always 2 read-file-kinds.ps read-file-kinds.r read-file.Post
+    z .number ≡ 0 → Always 2 read-file-kinds.ps read-file-kinds.r read-file.Post
     (λ κs′ args′ z′ w′. let bytes = now (args′ .0) in let buffer = now (args′ .1 .0) in
     bytes ≡ take (z .count) written → length values ≤ length buffer → ReadsBack kind values (w′ .1 .0) z′))
-file-read-of-written κs args z w is proper enough = (
-  rw (is .0) (write-answered (args .0) (now (args .1 .0)) (now (args .1 .1 .0)) (proper-writable proper enough)),
-  λ κs′ args′ z′ w′ is′ read room.
-      let written : now (args′ .0) ≡ fileOf (args .0) (now (args .1 .0)) = read ∙ rw (is .0, is .1) (file-left (args .0) (now (args .1 .0)) (now (args .1 .1 .0)) (proper-writable proper enough)) in
-      rw (is′ .0, is′ .1, written)
-      (reads-back (args .0) (now (args .1 .0)) (now (args′ .1 .0)) proper room),
-)
+file-read-of-written κs args z w is answered κs′ args′ z′ w′ is′ read room =
+    let nothing = answered-none (writing-agrees _ _ _) (write-file-grounds κs args z w is) answered in
+    let written : now (args′ .0) ≡ fileOf (args .0) (now (args .1 .0)) = read ∙ rw (is .0, is .1) (file-left (args .0) (now (args .1 .0)) (now (args .1 .1 .0)) nothing) in
+    rw (is′ .0, is′ .1, written) (reads-back (args .0) (now (args .1 .0)) (now (args′ .1 .0)) (written-proper _ _ _ nothing) room)
+
+-- The file of one frequency value, 0x10203040506, byte for byte: the low byte first.
+pub file-by-bytes : Always 2 write-file-kinds.ps write-file-kinds.r write-file.Post
+    (λ κs args z w. let kind = args .0 in let values = now (args .1 .0) in let left = w .1 .1 .0 in
+    kind ≡ 1 → values ≡ pos 0x10203040506 ∷ [] → 16 ≤ length (now (args .1 .1 .0)) → (z .count ≡ 16) × (take 16 left
+    ≡ 0x50 ∷ 0x48 ∷ 0x52 ∷ 0x01 ∷ 0x00 ∷ 0x01 ∷ 0x01 ∷ 0x00 ∷ 0x06 ∷ 0x05 ∷ 0x04 ∷ 0x03 ∷ 0x02 ∷ 0x01 ∷ 0x00 ∷ 0x00 ∷ []))
+file-by-bytes κs args z w is frequency one room = rw (is .0, is .1, frequency, one) (one-value-file (now (args .1 .1 .0)) room)
 
 -- Bytes are read exactly where they are the file of a kind and of values in range, with room for these.
 pub files-alone-are-read : Always 2 read-file-kinds.ps read-file-kinds.r read-file.Post

@@ -9,13 +9,18 @@ use Prim.Native.Nat.{ℕ, _+_, _-_, _*_, _%_, _^_, _≤_, _<_}
 use lib.IntN.{ℤ, pos, natAbs, _+ℤ_, _*ℤ_}
 use lib.ListN.{length}
 use Rattle.laws.specs.Lists.{at}
+use Rattle.laws.specs.Sums.{sumℤ}
+use Rattle.laws.proofs.LatestLaws.{latestOf}
+use Rattle.wide.specs.Wide.{value}
+use Rattle.wide.proofs.WideLaws.{value-of-halves}
 use Rattle.record.proofs.RangeLaws.{bounded-sample}
-use Rattle.sums.specs.Published.{allanSum, modifiedSum}
+use Rattle.sums.specs.Published.{difference, allanCount, allanSum, modifiedSum}
 use Rattle.sums.proofs.Shifted.{Shifted, shifted-allan-sum, shifted-modified-sum}
 use Rattle.meter.specs.Meter.{slot}
 use Rattle.meter.specs.declared.Meter.{Meter}
 use Rattle.meter.specs.declared.MeterAnswer.{MeterAnswer}
 use Rattle.meter.specs.declared.Report.{Report}
+use Rattle.meter.proofs.Stream.{latest}
 use Rattle.meter.proofs.Running.{publishedReport}
 use Rattle.acceptance.specs.Calls.{Starts, Samples, Reports, Trace, Run}
 use Rattle.acceptance.proofs.AnyCalls.{started-factor, reports-published, takes-every-start, takes-every-sample, trace-runs, shifted-streams-agree, refused-start-changes-nothing, refused-sample-changes-nothing}
@@ -36,6 +41,14 @@ report-is-published trace started call = rw (reports-published trace started cal
 -- An accepted start has a factor of at least 1, so that "once started" is 1 ≤ m.
 pub once-started : {x : Meter} {m : ℕ} {ring : List ℤ} {z : MeterAnswer} → Starts x m ring z → z .number ≡ 0 → 1 ≤ m
 once-started call accepted = started-factor call accepted
+
+-- The meter itself holds the factor, the count, both sums, and the sum of the latest second differences, all of them while there are fewer than m: of
+-- the K = n-2m there are so far these are K - (K - m).
+pub meter-holds : {x : Meter} {ring accepted : List ℤ} {m : ℕ} → Trace x ring m accepted → 1 ≤ m → let K : ℕ = length accepted - 2 * m in
+    (x .m ≡ m) × (x .n ≡ length accepted) × (value (x .a) ≡ allanSum m accepted) × (value (x .b) ≡ modifiedSum m accepted)
+    × (x .window ≡ sumℤ (K - (K - m)) (λ i. difference m accepted (K - m + i)))
+unfolding latest latestOf allanCount
+meter-holds trace started = rw (trace-runs trace started .0) (refl, refl, value-of-halves _, value-of-halves _, refl)
 
 -- ---- what is taken
 
@@ -82,17 +95,19 @@ refused-sample call refused = refused-sample-changes-nothing call refused
 -- A sample call answers the same of two rings that agree on the slots of samples n-m and n-2m from n = 2m on, and of n-3m from n = 3m on.
 pub only-slots-that-are-read : {x : Meter} {ring ring′ left left′ : List ℤ} {v : ℤ} {z z′ : MeterAnswer} →
     3 * x .m ≤ length ring → 3 * x .m ≤ length ring′ →
-    (2 * x .m ≤ x .n → slot x ring (x .n - x .m) ≡ slot x ring′ (x .n - x .m)) →
-    (2 * x .m ≤ x .n → slot x ring (x .n - 2 * x .m) ≡ slot x ring′ (x .n - 2 * x .m)) →
-    (3 * x .m ≤ x .n → slot x ring (x .n - 3 * x .m) ≡ slot x ring′ (x .n - 3 * x .m)) →
+    (2 * x .m ≤ x .n → at ring ((x .n - x .m) % (3 * x .m)) ≡ at ring′ ((x .n - x .m) % (3 * x .m))) →
+    (2 * x .m ≤ x .n → at ring ((x .n - 2 * x .m) % (3 * x .m)) ≡ at ring′ ((x .n - 2 * x .m) % (3 * x .m))) →
+    (3 * x .m ≤ x .n → at ring ((x .n - 3 * x .m) % (3 * x .m)) ≡ at ring′ ((x .n - 3 * x .m) % (3 * x .m))) →
     Samples x ring v z left → Samples x ring′ v z′ left′ → z ≡ z′
+unfolding slot
 only-slots-that-are-read long long′ once twice thrice =
     only-read-slots-matter (record { long = long; long′ = long′; once = once; twice = twice; thrice = thrice })
 
 -- All later samples are answered the same if the rings agree on the slots of the latest 3m samples, or of all while there are fewer.
 pub only-the-latest : {x : Meter} {ring ring′ later : List ℤ} {zs zs′ : List MeterAnswer} → 1 ≤ x .m → 3 * x .m ≤ length ring → 3 * x .m ≤ length ring′ →
-    ((k : ℕ) → k < x .n → x .n ≤ k + 3 * x .m → slot x ring k ≡ slot x ring′ k) →
+    ((k : ℕ) → k < x .n → x .n ≤ k + 3 * x .m → at ring (k % (3 * x .m)) ≡ at ring′ (k % (3 * x .m))) →
     Run x ring later zs → Run x ring′ later zs′ → zs ≡ zs′
+unfolding slot
 only-the-latest least long long′ kept = same-latest-same-answers (record { factor-least = least; long = long; long′ = long′; kept = kept })
 
 -- Two meters that were started at one factor and have accepted the same samples since are equal, and answer all later samples the same, whatever calls

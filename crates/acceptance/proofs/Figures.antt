@@ -2,6 +2,7 @@
 use mathlib.Core.Path.{_≡_, refl}
 use Prim.Native.Nat.{_+_, _*_}
 use denote.Ref.{now}
+use lib.Ieee.{round}
 use lib.ListN.{length}
 use Rattle.laws.specs.Single.{Always}
 use Rattle.laws.specs.Sums.{sum, sumℤ}
@@ -17,6 +18,7 @@ use Rattle.variances.specs.Fractions.{euclid, gcd}
 use Rattle.variances.specs.Deviations.{deviation}
 use Rattle.sums.specs.Answers.{sumAnswer, allanSumAnswer, modifiedSumAnswer}
 use Rattle.variances.specs.Answers.{figureRefusal, fractionAnswer, allanFractionAnswer, timeFractionAnswer, deviationAnswer, allanDeviationAnswer}
+use Rattle.plot.specs.Drawn.{drawnNumber}
 use Rattle.noise.specs.Noise.{alphaOf, kappaOf, noiseOf, noiseRefusal, noiseAnswer, toldAlpha, typeAnswer}
 use Rattle.noise.specs.Bars.{barWidth, barHalf, barsRefusal, barOf, barsAnswer}
 use Rattle.phr.specs.Bytes.{lowFirst, twosComplement, valuesBytes}
@@ -47,7 +49,7 @@ use Rattle.phr.proofs.write_file.Kinds as write-file-kinds
 use Rattle.acceptance.specs.Figures.{Starred}
 
 pub starred-figures : Starred
-unfolding sum sumℤ tabulate firstFailing bitByBit inRange rangeRefusal sizeRefusal recordRefusal countAnswer bufferLeft phases firstLeaving phaseRefusal driftP driftR driftRefusal driftAnswer floored withoutDrift removalRefusal difference allanCount allanSum allanDenominator windowSum modifiedCount modifiedSum timeDenominator euclid gcd deviation sumAnswer allanSumAnswer modifiedSumAnswer figureRefusal fractionAnswer allanFractionAnswer timeFractionAnswer deviationAnswer allanDeviationAnswer alphaOf kappaOf noiseOf noiseRefusal noiseAnswer toldAlpha typeAnswer barWidth barHalf barsRefusal barOf barsAnswer lowFirst twosComplement valuesBytes header fileOf mostValues valueInRange writeRefusal
+unfolding sum sumℤ tabulate firstFailing bitByBit inRange rangeRefusal sizeRefusal recordRefusal countAnswer bufferLeft phases firstLeaving phaseRefusal driftP driftR driftRefusal driftAnswer floored withoutDrift removalRefusal difference allanCount allanSum allanDenominator windowSum modifiedCount modifiedSum timeDenominator euclid gcd deviation sumAnswer allanSumAnswer modifiedSumAnswer figureRefusal fractionAnswer allanFractionAnswer timeFractionAnswer deviationAnswer allanDeviationAnswer alphaOf kappaOf noiseOf noiseRefusal noiseAnswer toldAlpha typeAnswer barWidth barHalf barsRefusal barOf barsAnswer drawnNumber round lowFirst twosComplement valuesBytes header fileOf mostValues valueInRange writeRefusal
 starred-figures = record {
   squares-at-1 = (refl, refl);
   squares-deviation = refl;

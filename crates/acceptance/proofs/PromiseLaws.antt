@@ -1,14 +1,14 @@
 -- What the definitions behind the contracts give where nothing is refused, as condition 2 promises it.
 use mathlib.Core.Path.{_≡_, refl, sym, ap, _∙_, subst}
-use mathlib.Core.Bool.{true}
-use mathlib.Core.List.{List}
+use mathlib.Core.Bool.{true, false}
+use mathlib.Core.List.{List, [], _∷_}
 use mathlib.Core.Logic.{inl, inr}
 use Prim.Native.Nat.{ℕ, _+_, _-_, _*_, _^_, _≤_, _<_, _∣_}
 use native.Mathlib.Omega.{arith}
 use borrow.Author.Tests.{le-leb, lt-leb, ne-eqb, eq-eqb, ltb-false}
 use lib.Dec.{leb}
 use lib.Ieee.{Float, nan}
-use lib.IntN.{ℤ, pos, _-ℤ_, _*ℤ_}
+use lib.IntN.{ℤ, pos, natAbs, _-ℤ_, _*ℤ_}
 use lib.ListN.{length, getD, take}
 use lib.Seq.{take-at}
 use Rattle.laws.specs.Greatest.{Greatest}
@@ -19,9 +19,10 @@ use Rattle.laws.proofs.ListLaws.{tabulate-entry, written-front}
 use Rattle.wide.specs.Wide.{value, halves}
 use Rattle.wide.proofs.WideLaws.{value-of-halves}
 use Rattle.record.specs.Answers.{countAnswer, bufferLeft}
-use Rattle.record.specs.Refusals.{none, refused, _then_, recordRefusal}
+use Rattle.record.specs.Refusals.{none, refused, _then_, inRange, recordRefusal}
 use Rattle.record.specs.declared.Refusal.{Refusal}
 use Rattle.record.specs.declared.CountAnswer.{CountAnswer}
+use Rattle.record.proofs.RangeLaws.{bounded-sample}
 use Rattle.record.proofs.RefusalLaws.{first-refuses-nothing, rest-refuses-nothing, test-fails, none-sound, unrefused-sound}
 use Rattle.frequency.specs.Frequency.{phases, phaseRefusal, differences, frequencyRefusal}
 use Rattle.frequency.proofs.FrequencyLaws.{phases-length, phase-is, differences-length, difference-is}
@@ -47,12 +48,13 @@ use Rattle.readings.proofs.AnswerLaws.{floatBuffer}
 use Rattle.readings.proofs.ReadingLaws.{sample-exact}
 use Rattle.readings.proofs.RefusalLaws.{samplesOf, samples-length, sample-at, samples-taken, unrefused-sample, unrefused-readings, unrefused-size}
 use Rattle.meter.proofs.Running.{publishedReport}
-use Rattle.phr.specs.File.{fileOf, Proper, IsFile, AreBytes}
+use Rattle.phr.specs.Bytes.{lowFirst, twosComplement, valuesBytes}
+use Rattle.phr.specs.File.{header, fileOf, mostValues, valueInRange, Proper, IsFile, AreBytes}
 use Rattle.phr.specs.Reading.{readRefusal, readAnswer, valuesOf}
 use Rattle.phr.proofs.AnswerCases.{readBuffer}
 use Rattle.phr.specs.Writing.{writeRefusal}
 use Rattle.phr.specs.declared.ReadAnswer.{ReadAnswer}
-use Rattle.phr.proofs.WriteCases.{Writable, writable-none}
+use Rattle.phr.proofs.WriteCases.{Writable, writable-none, unrefused-writable}
 use Rattle.phr.proofs.RoundTrip.{accepted-exactly, buffer-has-file, file-is-read, file-answer, values-come-back}
 use Rattle.plot.specs.Drawn.{GreatestDouble, drawnAnswer}
 use Rattle.plot.specs.Dots.{dotNumber, dotValue, dotAnswer}
@@ -149,6 +151,10 @@ module _ (xs buffer : List ℤ) (nothing : frequencyRefusal xs (length buffer) �
       rw (count-given nothing (length xs - 1) (differences xs) buffer, output-left nothing (length xs - 1) (differences xs) buffer)
       (take-at (differences xs) _ (length xs - 1) (differences-length xs))
 
+outside-fails-range : (x : ℤ) → 2 ^ 40 < natAbs x → inRange x ≡ false
+unfolding inRange
+outside-fails-range x beyond = lt-leb (natAbs x) (2 ^ 40) beyond
+
 module _ (xs : List ℤ) (some : 0 < length xs) (few : length xs ≤ 32768) where
   pub back-and-forth : (other : List ℤ) → length xs ≤ length other →
       BackAndForth xs (bufferLeft (phaseRefusal (differences xs) (length other)) (phases (differences xs)) other)
@@ -156,7 +162,7 @@ module _ (xs : List ℤ) (some : 0 < length xs) (few : length xs ≤ 32768) wher
   back-and-forth other room =
       let many : length (differences xs) + 1 ≡ length xs = omega (arith, differences-length xs) in record {
         given = λ all.
-            let nothing = unrefused-in-reach xs some (length other) few room all in
+            let nothing = unrefused-in-reach xs some (length other) few room (λ k inside. bounded-sample _ (all k inside)) in
             let given = count-given nothing (length (differences xs) + 1) (phases (differences xs)) other in (
               ap (λ (z : CountAnswer). z .number) given,
               ap (λ (z : CountAnswer). z .count) given ∙ many,
@@ -166,7 +172,7 @@ module _ (xs : List ℤ) (some : 0 < length xs) (few : length xs ≤ 32768) wher
                   ∙ tabulate-entry (length xs) (λ k. at xs k -ℤ at xs 0) (pos 0) i inside,
             );
         refused-first = λ i inside before here.
-            let three = refused-at-first-offset xs some (length other) few room i inside before here in
+            let three = refused-at-first-offset xs some (length other) few room i inside (λ k earlier. bounded-sample _ (before k earlier)) (outside-fails-range _ here) in
             (ap (λ (z : CountAnswer). z .number) (count-three _ three), ap (λ (z : CountAnswer). z .place) (count-three _ three));
       }
 
@@ -254,19 +260,19 @@ proper-writable proper enough = record { known = proper .known; few = proper .fe
 
 module _ (kind : ℕ) (values : List ℤ) where
   -- what writing leaves at the front of the buffer is the file
-  pub file-left : (buffer : List ℕ) → Writable kind values (length buffer) →
+  pub file-left : (buffer : List ℕ) → writeRefusal kind values (length buffer) ≡ none →
       let r : Refusal = writeRefusal kind values (length buffer) in
       take (countAnswer r (8 + 8 * length values) .count) (bufferLeft r (fileOf kind values) buffer) ≡ fileOf kind values
-  file-left buffer writable =
-      let nothing = writable-none kind values (length buffer) writable in
+  file-left buffer nothing =
       ap (λ (z : CountAnswer). take (z .count) (bufferLeft (writeRefusal kind values (length buffer)) (fileOf kind values) buffer))
       (count-given nothing (8 + 8 * length values) (fileOf kind values) buffer)
       ∙ buffer-has-file kind values buffer nothing
 
-  pub write-answered : (buffer : List ℕ) → Writable kind values (length buffer) →
-      countAnswer (writeRefusal kind values (length buffer)) (8 + 8 * length values) .number ≡ 0
-  write-answered buffer writable =
-      ap (λ (z : CountAnswer). z .number) (count-given (writable-none kind values (length buffer) writable) (8 + 8 * length values) (fileOf kind values) buffer)
+  -- and what was written is what a file may hold
+  pub written-proper : (room : ℕ) → writeRefusal kind values room ≡ none → Proper kind values
+  written-proper room nothing =
+      let writable = unrefused-writable kind values room (rw nothing) in
+      record { known = writable .known; few = writable .few; in-range = writable .in-range }
 
   -- reading it gives the kind and the values
   pub reads-back : (buffer : List ℤ) → Proper kind values → length values ≤ length buffer →
@@ -281,6 +287,19 @@ module _ (kind : ℕ) (values : List ℤ) where
         ap (λ (z : ReadAnswer). z .count) answer,
         ap (take (length values)) front ∙ take-at values _ (length values) refl,
       )
+
+-- the file of one value that takes six bytes and is beyond a sample's range
+one-value-proper : Proper 1 (pos 0x10203040506 ∷ [])
+unfolding mostValues valueInRange
+one-value-proper = record { known = omega arith; few = omega arith; in-range = λ i inside. let first : i ≡ 0 = omega arith in rw first refl }
+
+pub one-value-file : (buffer : List ℕ) → 16 ≤ length buffer → let r : Refusal = writeRefusal 1 (pos 0x10203040506 ∷ []) (length buffer) in
+    (countAnswer r 16 .count ≡ 16) × (take 16 (bufferLeft r (fileOf 1 (pos 0x10203040506 ∷ [])) buffer)
+    ≡ 0x50 ∷ 0x48 ∷ 0x52 ∷ 0x01 ∷ 0x00 ∷ 0x01 ∷ 0x01 ∷ 0x00 ∷ 0x06 ∷ 0x05 ∷ 0x04 ∷ 0x03 ∷ 0x02 ∷ 0x01 ∷ 0x00 ∷ 0x00 ∷ [])
+unfolding header lowFirst fileOf twosComplement valuesBytes
+one-value-file buffer room =
+    let nothing = writable-none 1 _ (length buffer) (proper-writable one-value-proper room) in
+    (count-of nothing 16 (fileOf 1 (pos 0x10203040506 ∷ [])) buffer, rw (output-left nothing 16 (fileOf 1 (pos 0x10203040506 ∷ [])) buffer) refl)
 
 -- ---- fractions and deviations
 

@@ -3,6 +3,7 @@ use mathlib.Core.Path.{_≡_}
 use mathlib.Core.Bool.{false}
 use mathlib.Core.List.{List, [], _∷_}
 use Prim.Native.Nat.{ℕ, _-_, _^_}
+use lib.Ieee.{fin}
 use lib.IntN.{ℤ, pos, negsuc}
 use lib.ListN.{length}
 use Rattle.laws.specs.Lists.{tabulate}
@@ -14,7 +15,6 @@ use Rattle.sums.specs.Answers.{allanSumAnswer, modifiedSumAnswer}
 use Rattle.sums.specs.declared.SumAnswer.{SumAnswer}
 use Rattle.variances.specs.Answers.{allanFractionAnswer, timeFractionAnswer, allanDeviationAnswer}
 use Rattle.variances.specs.declared.FractionAnswer.{FractionAnswer}
-use Rattle.plot.specs.Drawn.{drawnNumber}
 use Rattle.noise.specs.Noise.{toldAlpha, typeAnswer}
 use Rattle.noise.specs.Bars.{barsAnswer}
 use Rattle.noise.specs.declared.Noise.the-variants.{FlickerFrequency}
@@ -80,9 +80,9 @@ pub record Starred : Type 0 where
   pub phased : let ys : List ℤ = pos 3 ∷ negsuc 0 ∷ pos 4 ∷ [] in Fills (phaseRefusal ys 5) 4 (phases ys) byTurns (pos 0 ∷ pos 3 ∷ pos 2 ∷ pos 6 ∷ pos 0 ∷ [])
   pub squares-drift : Drift squares (pos 8) 4 (pos 0 ∷ pos 1 ∷ pos 2 ∷ pos 3 ∷ pos 4 ∷ pos 5 ∷ [])
   pub falling-drift : Drift (pos 0 ∷ pos 0 ∷ pos 0 ∷ negsuc 0 ∷ []) (negsuc 0) 2 (pos 0 ∷ pos 0 ∷ pos 1 ∷ pos 1 ∷ [])
-  -- h = 77,000
+  -- h = 77,000: 923,000 and 1,000,000 and 1,077,000 over 2^20, each as a whole number times a power of two
   pub bar : barsAnswer 1000000 FlickerFrequency 100
-      ≡ record { number = 0; place = 0; bar = record { low = drawnNumber 923000; mid = drawnNumber 1000000; high = drawnNumber 1077000 }; touches = false }
+      ≡ record { number = 0; place = 0; bar = record { low = fin false 115375 (negsuc 16); mid = fin false 15625 (negsuc 13); high = fin false 134625 (negsuc 16) }; touches = false }
   pub flicker-phase : Typed 4096 4096 (pos 1)
   pub at-the-bound : Typed 4096 3444 (pos 2)
   pub past-the-bound : Typed 4096 3445 (pos 1)

@@ -3,17 +3,16 @@
 use mathlib.Core.Path.{_≡_}
 use mathlib.Core.Bool.{true, false}
 use mathlib.Core.List.{List}
-use Prim.Native.Nat.{ℕ, _+_, _-_, _*_, _/_, _≤_, _<_, _∣_}
+use Prim.Native.Nat.{ℕ, _+_, _-_, _*_, _/_, _^_, _≤_, _<_, _∣_}
 use lib.Dec.{leb}
 use lib.Ieee.{Float}
-use lib.IntN.{ℤ, pos, negsuc, _+ℤ_, _-ℤ_, _*ℤ_}
+use lib.IntN.{ℤ, pos, negsuc, natAbs, _+ℤ_, _-ℤ_, _*ℤ_}
 use lib.ListN.{length, take}
 use lib.Signed.{_≤ℤ_, _<ℤ_}
 use Rattle.laws.specs.Greatest.{Greatest}
 use Rattle.laws.specs.Lists.{at}
 use Rattle.wide.specs.Wide.{value}
 use Rattle.wide.specs.declared.Wide.{Wide}
-use Rattle.record.specs.Refusals.{inRange}
 use Rattle.record.specs.declared.CountAnswer.{CountAnswer}
 use Rattle.sums.specs.Published.{allanSum, modifiedSum}
 use Rattle.sums.specs.declared.Part.{Part}
@@ -51,10 +50,10 @@ pub record FractionOf (a d numerator denominator : ℕ) : Type 0 where
 
 -- phase, to frequency, to phase gives x_i - x_0 where all of these are in range; else 3 at the first that is not
 pub record BackAndForth (xs left : List ℤ) (z : CountAnswer) : Type 0 where
-  pub given : ((k : ℕ) → k + 1 < length xs → inRange (at xs (k + 1) -ℤ at xs 0) ≡ true) →
+  pub given : ((k : ℕ) → k + 1 < length xs → natAbs (at xs (k + 1) -ℤ at xs 0) ≤ 2 ^ 40) →
       (z .number ≡ 0) × (z .count ≡ length xs) × ((i : ℕ) → i < length xs → at left i ≡ at xs i -ℤ at xs 0)
-  pub refused-first : (i : ℕ) → i + 1 < length xs → ((k : ℕ) → k < i → inRange (at xs (k + 1) -ℤ at xs 0) ≡ true) →
-      inRange (at xs (i + 1) -ℤ at xs 0) ≡ false → (z .number ≡ 3) × (z .place ≡ i)
+  pub refused-first : (i : ℕ) → i + 1 < length xs → ((k : ℕ) → k < i → natAbs (at xs (k + 1) -ℤ at xs 0) ≤ 2 ^ 40) →
+      2 ^ 40 < natAbs (at xs (i + 1) -ℤ at xs 0) → (z .number ≡ 3) × (z .place ≡ i)
 
 -- ---- dots
 
