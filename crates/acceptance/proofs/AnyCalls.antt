@@ -14,7 +14,7 @@ use Rattle.record.specs.Refusals.{inRange}
 use Rattle.record.specs.declared.Refusal.{Refusal}
 use Rattle.sums.specs.Published.{allanCount, modifiedCount}
 use Rattle.sums.proofs.Shifted.{Shifted, shifted-allan-sum, shifted-modified-sum}
-use Rattle.meter.specs.Meter.{factorFits, holdsTogether, ringWith}
+use Rattle.meter.specs.Meter.{factorFits, holdsTogether, withSample, ringWith, started}
 use Rattle.sums.specs.Answers.{partOf, noPart}
 use Rattle.meter.specs.Answers.{meterAnswer, startRefusal, startAnswer, sampleRefusal, sampleAnswer, ringLeft, reportAnswer}
 use Rattle.meter.specs.declared.Meter.{Meter}
@@ -74,6 +74,18 @@ refused-sample-changes-nothing {x} {ring} {v = v} {z} call refused =
     let answer = sample-answers call .0 in
     let number : sampleRefusal x ring v .number ≡ 0 → ⊥ = λ e. refused (same-number z _ _ _ answer ∙ e) in
     (refused-old z _ _ _ answer number, sample-answers call .1 ∙ choice-false _ _ (ne-eqb _ 0 number))
+
+-- ---- an accepted call
+
+pub accepted-fresh : {x : Meter} {m : ℕ} {ring : List ℤ} {z : MeterAnswer} → Starts x m ring z → z .number ≡ 0 → z .meter ≡ started m
+unfolding startAnswer
+accepted-fresh {z = z} call accepted =
+    let answer = start-answers call in accepted-new z _ _ _ answer (sym (same-number z _ _ _ answer) ∙ accepted)
+
+pub accepted-worked : {x : Meter} {ring left : List ℤ} {v : ℤ} {z : MeterAnswer} → Samples x ring v z left → z .number ≡ 0 → z .meter ≡ withSample x ring v
+unfolding sampleAnswer
+accepted-worked {z = z} call accepted =
+    let answer = sample-answers call .0 in accepted-new z _ _ _ answer (sym (same-number z _ _ _ answer) ∙ accepted)
 
 -- ---- before the first start
 

@@ -2,12 +2,14 @@
 -- crates/laws/specs/Single.antt) where the call is answered, which Grounds.antt tells exactly; what is promised of a result stands in
 -- specs/Promises.antt. The exported functions have the same contracts (Condition1.antt, NAME-is), or tell the same answers in numbers (NAME-tells).
 use mathlib.Core.Path.{_≡_, refl, _∙_, ap}
+use mathlib.Core.Bool.{Bool, cond}
 use mathlib.Core.List.{List, [], _∷_}
 use Prim.Native.Nat.{ℕ, _+_, _-_, _*_, _≤_, _<_}
 use native.Mathlib.Omega.{arith}
 use denote.Ref.{now}
 use lib.Ieee.{nan}
-use lib.IntN.{ℤ, pos, negsuc, _-ℤ_}
+use lib.Ieee.Exact.{HasValue}
+use lib.IntN.{ℤ, pos, negsuc, negℤ, _-ℤ_}
 use lib.ListN.{length, getD, take}
 use Rattle.laws.specs.Greatest.{Greatest}
 use Rattle.laws.specs.Lists.{at}
@@ -86,7 +88,7 @@ use Rattle.acceptance.proofs.TypeGrounds.{type-agrees, bars-agree, alph
 use Rattle.acceptance.proofs.RecordTypeGrounds.{record-type-agrees}
 use Rattle.acceptance.proofs.FileGrounds.{writing-agrees, reading-agrees}
 use Rattle.acceptance.proofs.Grounds.{allan-sum-grounds, modified-sum-grounds, allan-fraction-grounds, time-fraction-grounds, allan-deviation-grounds, time-deviation-grounds, phase-from-frequency-grounds, frequency-from-phase-grounds, drift-figure-grounds, remove-drift-grounds, float-sums-grounds, drawn-number-grounds, allan-dot-grounds, time-dot-grounds, noise-type-grounds, noise-of-record-grounds, plg-noise-type-grounds, plg-noise-of-record-grounds, bars-grounds, read-file-grounds, write-file-grounds}
-use Rattle.acceptance.proofs.PromiseLaws.{allan-sum-of, modified-sum-of, phases-of, differences-of, differences-left, back-and-forth, drift-of, result-of, drift-removed, float-sums-of, reads-files-alone, reads-every-file, file-left, one-value-file, written-proper, reads-back, drawn-of, dot-told, allan-dot-of, time-dot-of, allan-fraction-of, time-fraction-of, allan-deviation-of, time-deviation-of, allan-deviation-of-record, time-deviation-of-record, type-of, noise-of, bars-of}
+use Rattle.acceptance.proofs.PromiseLaws.{allan-sum-of, modified-sum-of, phases-of, differences-of, differences-left, back-and-forth, drift-of, result-of, drift-removed, float-sums-of, float-samples-of, reads-files-alone, reads-every-file, file-left, one-value-file, written-proper, reads-back, drawn-of, dot-told, allan-dot-of, time-dot-of, allan-fraction-of, time-fraction-of, allan-deviation-of, time-deviation-of, allan-deviation-of-record, time-deviation-of-record, type-of, noise-of, bars-of}
 use Rattle.acceptance.proofs.Figures.{starred-figures}
 
 -- ---- the published sums: x the record, N its length, m the factor
@@ -188,6 +190,14 @@ pub float-sums-published : Always 2 float-sums-kinds.ps float-sums-kinds.r float
 float-sums-published κs args z w is answered =
     let nothing = answered-none (readings-agree _ _ _) (float-sums-grounds κs args z w is) answered in
     rw (is .0, is .1) (float-sums-of (args .1 .0) (now (args .0)) (now (args .1 .1 .0)) nothing)
+
+-- By its sign and its size: a whole reading of size n becomes n, or -n.
+pub float-samples-published : Always 2 float-sums-kinds.ps float-sums-kinds.r float-sums.Post
+    (λ κs args z w. let xs = now (args .0) in let left = w .1 .1 .0 in
+    z .number ≡ 0 → (k : ℕ) → k < length xs → (s : Bool) (n : ℕ) → HasValue (getD xs k nan) s n 1 → at left k ≡ cond s (negℤ (pos n)) (pos n))
+float-samples-published κs args z w is answered =
+    let nothing = answered-none (readings-agree _ _ _) (float-sums-grounds κs args z w is) answered in
+    rw (is .1) (float-samples-of (args .1 .0) (now (args .0)) (now (args .1 .1 .0)) nothing)
 
 -- ---- drawn numbers and dots
 

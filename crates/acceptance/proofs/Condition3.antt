@@ -6,28 +6,28 @@
 use mathlib.Core.Path.{_≡_, refl}
 use mathlib.Core.List.{List}
 use Prim.Native.Nat.{ℕ, _+_, _-_, _*_, _%_, _^_, _≤_, _<_}
-use lib.IntN.{ℤ, pos, natAbs, _+ℤ_, _*ℤ_}
+use lib.IntN.{ℤ, pos, natAbs, _+ℤ_, _-ℤ_, _*ℤ_}
 use lib.ListN.{length}
 use Rattle.laws.specs.Lists.{at}
-use Rattle.laws.specs.Sums.{sumℤ}
+use Rattle.laws.specs.Sums.{sumℤ, square}
 use Rattle.laws.proofs.LatestLaws.{latestOf}
 use Rattle.wide.specs.Wide.{value}
 use Rattle.wide.proofs.WideLaws.{value-of-halves}
 use Rattle.record.proofs.RangeLaws.{bounded-sample}
 use Rattle.sums.specs.Published.{difference, allanCount, allanSum, modifiedSum}
 use Rattle.sums.proofs.Shifted.{Shifted, shifted-allan-sum, shifted-modified-sum}
-use Rattle.meter.specs.Meter.{slot}
+use Rattle.meter.specs.Meter.{slot, started}
 use Rattle.meter.specs.declared.Meter.{Meter}
 use Rattle.meter.specs.declared.MeterAnswer.{MeterAnswer}
 use Rattle.meter.specs.declared.Report.{Report}
 use Rattle.meter.proofs.Stream.{latest}
 use Rattle.meter.proofs.Running.{publishedReport}
 use Rattle.acceptance.specs.Calls.{Starts, Samples, Reports, Trace, Run}
-use Rattle.acceptance.proofs.AnyCalls.{started-factor, reports-published, takes-every-start, takes-every-sample, trace-runs, shifted-streams-agree, refused-start-changes-nothing, refused-sample-changes-nothing}
+use Rattle.acceptance.proofs.AnyCalls.{started-factor, reports-published, takes-every-start, takes-every-sample, accepted-fresh, accepted-worked, report-answers, trace-runs, shifted-streams-agree, refused-start-changes-nothing, refused-sample-changes-nothing}
 use Rattle.acceptance.proofs.LatestOnly.{only-read-slots-matter, same-latest-same-answers, same-samples-same-answers}
 use Rattle.acceptance.specs.Noughts.{Refused}
-use Rattle.acceptance.specs.Promises.{PartsOf}
-use Rattle.acceptance.proofs.PromiseLaws.{report-of}
+use Rattle.acceptance.specs.Promises.{SumOf, PartsOf}
+use Rattle.acceptance.proofs.PromiseLaws.{report-of, report-tells, sample-works}
 
 -- ---- the report
 
@@ -49,6 +49,34 @@ pub meter-holds : {x : Meter} {ring accepted : List ℤ} {m : ℕ} → Trace x r
     × (x .window ≡ sumℤ (K - (K - m)) (λ i. difference m accepted (K - m + i)))
 unfolding latest latestOf allanCount
 meter-holds trace started = rw (trace-runs trace started .0) (refl, refl, value-of-halves _, value-of-halves _, refl)
+
+-- Any meter that is started or takes a sample, made by hand or not, gets this: a start gives noughts at factor m, and a sample the difference d of
+-- samples n, n-m and n-2m from n = 2m on, while e, of n-m, n-2m and n-3m, leaves the window from n = 3m on; A takes in d, and B the window once it is full.
+pub start-gives-noughts : {x : Meter} {m : ℕ} {ring : List ℤ} {z : MeterAnswer} → Starts x m ring z → z .number ≡ 0 → let y = z .meter in
+    (y .m ≡ m) × (y .n ≡ 0) × (value (y .a) ≡ 0) × (value (y .b) ≡ 0) × (y .window ≡ pos 0)
+unfolding started
+start-gives-noughts call accepted = rw (accepted-fresh call accepted) (refl, refl, refl, refl, refl)
+
+pub sample-works-on : {x : Meter} {ring left : List ℤ} {v : ℤ} {z : MeterAnswer} → Samples x ring v z left → z .number ≡ 0 → let y = z .meter in
+    let old : (ℕ → ℤ) = λ k. at ring (k % (3 * x .m)) in
+    let d : ℤ = v -ℤ pos 2 *ℤ old (x .n - x .m) +ℤ old (x .n - 2 * x .m) in
+    let e : ℤ = old (x .n - x .m) -ℤ pos 2 *ℤ old (x .n - 2 * x .m) +ℤ old (x .n - 3 * x .m) in
+    (y .m ≡ x .m) × (y .n ≡ x .n + 1)
+    × (x .n < 2 * x .m → (y .window ≡ x .window) × (y .a ≡ x .a))
+    × (2 * x .m ≤ x .n → value (y .a) ≡ value (x .a) + square d)
+    × (2 * x .m ≤ x .n → x .n < 3 * x .m → y .window ≡ x .window +ℤ d)
+    × (3 * x .m ≤ x .n → y .window ≡ x .window +ℤ d -ℤ e)
+    × (x .n + 1 < 3 * x .m → y .b ≡ x .b)
+    × (3 * x .m ≤ x .n + 1 → value (y .b) ≡ value (x .b) + square (y .window))
+sample-works-on {x} {ring} {v = v} call accepted = rw (accepted-worked call accepted) (sample-works x ring v)
+
+-- A report tells the sums that the meter holds, with their counts, each apart, or 1.
+pub report-tells-the-meter : {x : Meter} {z : Report} → Reports x z → z .number ≡ 0 →
+    (2 * x .m + 1 ≤ x .n → (z .allan .number ≡ 0) × SumOf (value (x .a)) (x .n - 2 * x .m) (z .allan .sum) (z .allan .count))
+    × (x .n < 2 * x .m + 1 → z .allan .number ≡ 1)
+    × (3 * x .m ≤ x .n → (z .modified .number ≡ 0) × SumOf (value (x .b)) (x .n - 3 * x .m + 1) (z .modified .sum) (z .modified .count))
+    × (x .n < 3 * x .m → z .modified .number ≡ 1)
+report-tells-the-meter {x} {z} call answered = let is = report-answers call in rw is (report-tells x (rw is at answered))
 
 -- ---- what is taken
 
