@@ -532,7 +532,7 @@ def stands_in(house, name, place):
 
 def is_stated(text, name):
     """A line gives the name its type; NAME stands for any name."""
-    names = re.findall(r"^ *(?:abbrev |unfoldable )?pub (?:(?:record|data) )?(\S+)(?= :| \()", text, re.M)
+    names = re.findall(r"^ *(?:abbrev |unfoldable )?pub (?:(?:record|data) )?(\S+)(?= :| \()", text, re.M) + re.findall(r"^ *(\S+)(?= : )", text, re.M)
     return name in names or "NAME" in name and any(re.fullmatch(name.replace("NAME", ".+"), other) for other in names)
 
 
