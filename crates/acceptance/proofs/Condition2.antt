@@ -1,7 +1,7 @@
 -- Condition 2: the published figure, exactly. Each theorem speaks of every result that the function's own contract allows (Always,
 -- crates/laws/specs/Single.antt) where the call is answered, which Grounds.antt tells exactly; what is promised of a result stands in
 -- specs/Promises.antt. The exported functions have the same contracts (Condition1.antt, NAME-is), or tell the same answers in numbers (NAME-tells).
-use mathlib.Core.Path.{_≡_, refl, _∙_, ap}
+use mathlib.Core.Path.{_≡_, refl, _∙_}
 use mathlib.Core.Bool.{Bool, cond}
 use mathlib.Core.List.{List, [], _∷_}
 use Prim.Native.Nat.{ℕ, _+_, _-_, _*_, _≤_, _<_}
@@ -71,7 +71,8 @@ use Rattle.noise.proofs.noise_of_record.Reads as noise-of-record
 use Rattle.noise.proofs.noise_of_record.Kinds as noise-of-record-kinds
 use Rattle.noise.proofs.bars.bars.Reads as bars
 use Rattle.noise.proofs.bars.bars.Kinds as bars-kinds
-use Rattle.phr.specs.File.{fileOf, IsFile, AreBytes}
+use Rattle.phr.specs.Bytes.{lowFirst, twosComplement, valuesBytes}
+use Rattle.phr.specs.File.{header, fileOf, IsFile, AreBytes}
 use Rattle.phr.proofs.read_file.Reads as read-file
 use Rattle.phr.proofs.read_file.Kinds as read-file-kinds
 use Rattle.phr.proofs.write_file.Reads as write-file
@@ -88,7 +89,7 @@ use Rattle.acceptance.proofs.TypeGrounds.{type-agrees, bars-agree, alph
 use Rattle.acceptance.proofs.RecordTypeGrounds.{record-type-agrees}
 use Rattle.acceptance.proofs.FileGrounds.{writing-agrees, reading-agrees}
 use Rattle.acceptance.proofs.Grounds.{allan-sum-grounds, modified-sum-grounds, allan-fraction-grounds, time-fraction-grounds, allan-deviation-grounds, time-deviation-grounds, phase-from-frequency-grounds, frequency-from-phase-grounds, drift-figure-grounds, remove-drift-grounds, float-sums-grounds, drawn-number-grounds, allan-dot-grounds, time-dot-grounds, noise-type-grounds, noise-of-record-grounds, plg-noise-type-grounds, plg-noise-of-record-grounds, bars-grounds, read-file-grounds, write-file-grounds}
-use Rattle.acceptance.proofs.PromiseLaws.{allan-sum-of, modified-sum-of, phases-of, differences-of, differences-left, back-and-forth, drift-of, result-of, drift-removed, float-sums-of, float-samples-of, reads-files-alone, reads-every-file, file-left, one-value-file, written-proper, reads-back, drawn-of, dot-told, allan-dot-of, time-dot-of, allan-fraction-of, time-fraction-of, allan-deviation-of, time-deviation-of, allan-deviation-of-record, time-deviation-of-record, type-of, noise-of, bars-of}
+use Rattle.acceptance.proofs.PromiseLaws.{allan-sum-of, modified-sum-of, phases-of, differences-of, differences-left, back-and-forth, drift-of, result-of, drift-removed, float-sums-of, float-samples-of, reads-files-alone, reads-every-file, count-of, output-left, file-left, one-value-unrefused, written-proper, reads-back, drawn-of, dot-told, allan-dot-of, time-dot-of, allan-fraction-of, time-fraction-of, allan-deviation-of, time-deviation-of, allan-deviation-of-record, time-deviation-of-record, type-of, noise-of, bars-of}
 use Rattle.acceptance.proofs.Figures.{starred-figures}
 
 -- ---- the published sums: x the record, N its length, m the factor
@@ -322,7 +323,12 @@ pub file-by-bytes : Always 2 write-file-kinds.ps write-file-kinds.r write-file.P
     (λ κs args z w. let kind = args .0 in let values = now (args .1 .0) in let left = w .1 .1 .0 in
     kind ≡ 1 → values ≡ pos 0x10203040506 ∷ [] → 16 ≤ length (now (args .1 .1 .0)) → (z .count ≡ 16) × (take 16 left
     ≡ 0x50 ∷ 0x48 ∷ 0x52 ∷ 0x01 ∷ 0x00 ∷ 0x01 ∷ 0x01 ∷ 0x00 ∷ 0x06 ∷ 0x05 ∷ 0x04 ∷ 0x03 ∷ 0x02 ∷ 0x01 ∷ 0x00 ∷ 0x00 ∷ []))
-file-by-bytes κs args z w is frequency one room = rw (is .0, is .1, frequency, one) (one-value-file (now (args .1 .1 .0)) room)
+unfolding header lowFirst fileOf twosComplement valuesBytes
+file-by-bytes κs args z w is frequency one room =
+    let buffer = now (args .1 .1 .0) in
+    let nothing = one-value-unrefused (length buffer) room in
+    let count = count-of nothing 16 (fileOf 1 (pos 0x10203040506 ∷ [])) buffer in
+    rw (is .0, is .1, frequency, one) (count, rw (output-left nothing 16 (fileOf 1 (pos 0x10203040506 ∷ [])) buffer) refl)
 
 -- Bytes are read exactly where they are the file of a kind and of values in range, with room for these.
 pub files-alone-are-read : Always 2 read-file-kinds.ps read-file-kinds.r read-file.Post

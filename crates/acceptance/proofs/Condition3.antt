@@ -4,19 +4,25 @@
 -- before the first), and h the samples accepted since. Starts, Samples and Reports are one call by its contract. The exported calls have the same
 -- contracts (Condition1.antt, plg-meter-start-is, plg-meter-sample-is, plg-meter-report-is).
 use mathlib.Core.Path.{_≡_, refl}
+use mathlib.Core.Bool.{true}
 use mathlib.Core.List.{List}
 use Prim.Native.Nat.{ℕ, _+_, _-_, _*_, _%_, _^_, _≤_, _<_}
+use native.Mathlib.Omega.{arith}
+use borrow.Author.Tests.{le-leb, lt-leb}
 use lib.IntN.{ℤ, pos, natAbs, _+ℤ_, _-ℤ_, _*ℤ_}
 use lib.ListN.{length}
 use Rattle.laws.specs.Lists.{at}
 use Rattle.laws.specs.Sums.{sumℤ, square}
 use Rattle.laws.proofs.LatestLaws.{latestOf}
+use Rattle.laws.proofs.Tests.{never-false}
 use Rattle.wide.specs.Wide.{value}
 use Rattle.wide.proofs.WideLaws.{value-of-halves}
 use Rattle.record.proofs.RangeLaws.{bounded-sample}
 use Rattle.sums.specs.Published.{difference, allanCount, allanSum, modifiedSum}
 use Rattle.sums.proofs.Shifted.{Shifted, shifted-allan-sum, shifted-modified-sum}
-use Rattle.meter.specs.Meter.{slot, started}
+use Rattle.sums.specs.Answers.{partOf}
+use Rattle.meter.specs.Meter.{holdsTogether, slot, newDifference, oldDifference, newWindow, withSample, started}
+use Rattle.meter.specs.Answers.{reportAnswer}
 use Rattle.meter.specs.declared.Meter.{Meter}
 use Rattle.meter.specs.declared.MeterAnswer.{MeterAnswer}
 use Rattle.meter.specs.declared.Report.{Report}
@@ -27,7 +33,7 @@ use Rattle.acceptance.proofs.AnyCalls.{started-factor, reports-publishe
 use Rattle.acceptance.proofs.LatestOnly.{only-read-slots-matter, same-latest-same-answers, same-samples-same-answers}
 use Rattle.acceptance.specs.Noughts.{Refused}
 use Rattle.acceptance.specs.Promises.{SumOf, PartsOf}
-use Rattle.acceptance.proofs.PromiseLaws.{report-of, report-tells, sample-works}
+use Rattle.acceptance.proofs.PromiseLaws.{report-of}
 
 -- ---- the report
 
@@ -68,7 +74,18 @@ pub sample-works-on : {x : Meter} {ring left : List ℤ} {v : ℤ} {z : MeterAns
     × (3 * x .m ≤ x .n → y .window ≡ x .window +ℤ d -ℤ e)
     × (x .n + 1 < 3 * x .m → y .b ≡ x .b)
     × (3 * x .m ≤ x .n + 1 → value (y .b) ≡ value (x .b) + square (y .window))
-sample-works-on {x} {ring} {v = v} call accepted = rw (accepted-worked call accepted) (sample-works x ring v)
+unfolding withSample newWindow newDifference oldDifference slot
+sample-works-on {x} call accepted =
+    rw (accepted-worked call accepted) (
+      refl,
+      refl,
+      λ few. rw (lt-leb (2 * x .m) (x .n) few, lt-leb (3 * x .m) (x .n) (omega arith)) (refl, refl),
+      λ many. rw (le-leb (2 * x .m) (x .n) many) (value-of-halves _),
+      λ many few. rw (le-leb (2 * x .m) (x .n) many, lt-leb (3 * x .m) (x .n) few) refl,
+      λ many. rw (le-leb (3 * x .m) (x .n) many) refl,
+      λ few. rw (lt-leb (3 * x .m) (x .n + 1) few) refl,
+      λ many. rw (le-leb (3 * x .m) (x .n + 1) many) (value-of-halves _),
+    )
 
 -- A report tells the sums that the meter holds, with their counts, each apart, or 1.
 pub report-tells-the-meter : {x : Meter} {z : Report} → Reports x z → z .number ≡ 0 →
@@ -76,7 +93,16 @@ pub report-tells-the-meter : {x : Meter} {z : Report} → Reports x z → z .num
     × (x .n < 2 * x .m + 1 → z .allan .number ≡ 1)
     × (3 * x .m ≤ x .n → (z .modified .number ≡ 0) × SumOf (value (x .b)) (x .n - 3 * x .m + 1) (z .modified .sum) (z .modified .count))
     × (x .n < 3 * x .m → z .modified .number ≡ 1)
-report-tells-the-meter {x} {z} call answered = let is = report-answers call in rw is (report-tells x (rw is at answered))
+unfolding reportAnswer partOf
+report-tells-the-meter {x} call answered =
+    let is = report-answers call in
+    let together : holdsTogether x ≡ true = never-false _ (λ e. omega (arith, rw (is, e) at answered)) in
+    rw (is, together) (
+      λ due. rw (le-leb (2 * x .m + 1) (x .n) due) (refl, (value-of-halves _, refl)),
+      λ short. rw (lt-leb (2 * x .m + 1) (x .n) short) refl,
+      λ due. rw (le-leb (3 * x .m) (x .n) due) (refl, (value-of-halves _, omega arith)),
+      λ short. rw (lt-leb (3 * x .m) (x .n) short) refl,
+    )
 
 -- ---- what is taken
 

@@ -14,7 +14,7 @@ use Rattle.variances.specs.Deviations.{within, deviation}
 use Rattle.variances.specs.Answers.{figureRefusal, fractionAnswer, deviationAnswer}
 use Rattle.variances.specs.declared.FractionAnswer.{FractionAnswer}
 use Rattle.variances.specs.declared.DeviationAnswer.{DeviationAnswer}
-use Rattle.variances.proofs.AnswerLaws.{deviationRefusal, givenFraction, noFraction, givenDeviation, noDeviation, deviation-refused}
+use Rattle.variances.proofs.AnswerLaws.{deviationRefusal, givenDeviation, noDeviation, deviation-refused}
 use Rattle.variances.proofs.DeviationLaws.{deviation-is-greatest}
 use Rattle.variances.proofs.FigureLaws.{factor-nought, factor-too-large, count-nought, count-too-large, sum-too-large, unrefused-allowed, denominator-above-nought}
 use Rattle.plot.specs.Dots.{dotAnswer}

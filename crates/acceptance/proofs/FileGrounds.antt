@@ -11,7 +11,7 @@ use lib.Dec.{ltb}
 use lib.IntN.{ℤ, pos, natAbs}
 use lib.ListN.{length, getD}
 use Rattle.laws.specs.Lists.{at, firstFailing}
-use Rattle.laws.proofs.ListLaws.{tabulate-entry, first-failing-is, fails-there, passes-before}
+use Rattle.laws.proofs.ListLaws.{tabulate-entry}
 use Rattle.record.specs.Refusals.{refused}
 use Rattle.record.specs.Answers.{countAnswer}
 use Rattle.record.specs.declared.CountAnswer.{CountAnswer}

@@ -3,7 +3,7 @@ use mathlib.Core.Path.{_≡_, refl, sym, ap, _∙_, subst}
 use mathlib.Core.Bool.{Bool, true, false, cond}
 use mathlib.Core.List.{List, [], _∷_}
 use mathlib.Core.Logic.{inl, inr}
-use Prim.Native.Nat.{ℕ, _+_, _-_, _*_, _%_, _^_, _≤_, _<_, _∣_}
+use Prim.Native.Nat.{ℕ, _+_, _-_, _*_, _^_, _≤_, _<_, _∣_}
 use native.Mathlib.Nat.{eq-of-mul-eq-mul-right}
 use native.Mathlib.Omega.{arith}
 use borrow.Author.Tests.{le-leb, lt-leb, ne-eqb, eq-eqb, ltb-false}
@@ -11,15 +11,14 @@ use lib.Dec.{leb}
 use lib.Ieee.{Float, nan, inf, fin, down}
 use lib.Ieee.Exact.{HasValue}
 use lib.Ieee.Fits.{down-pos}
-use lib.IntN.{ℤ, pos, negℤ, natAbs, _+ℤ_, _-ℤ_, _*ℤ_}
+use lib.IntN.{ℤ, pos, negℤ, natAbs, _-ℤ_, _*ℤ_}
 use lib.ListN.{length, getD, take}
 use lib.Seq.{take-at}
 use Rattle.laws.specs.Greatest.{Greatest}
 use Rattle.laws.specs.Lists.{at, written}
-use Rattle.laws.specs.Sums.{sumℤ, square}
+use Rattle.laws.specs.Sums.{sumℤ}
 use Rattle.laws.proofs.Expressions.{$_, _⊖_, equation}
 use Rattle.laws.proofs.ListLaws.{tabulate-entry, written-front}
-use Rattle.laws.proofs.Tests.{never-false}
 use Rattle.wide.specs.Wide.{value, halves}
 use Rattle.wide.proofs.WideLaws.{value-of-halves}
 use Rattle.record.specs.Answers.{countAnswer, bufferLeft}
@@ -51,13 +50,8 @@ use Rattle.readings.specs.Answers.{floatRefusal, floatAnswer}
 use Rattle.readings.proofs.AnswerLaws.{floatBuffer}
 use Rattle.readings.proofs.ReadingLaws.{sample-exact}
 use Rattle.readings.proofs.RefusalLaws.{samplesOf, samples-length, sample-at, samples-taken, unrefused-sample, unrefused-readings, unrefused-size}
-use Rattle.meter.specs.Meter.{holdsTogether, slot, newDifference, oldDifference, newWindow, withSample}
-use Rattle.meter.specs.Answers.{reportAnswer}
-use Rattle.meter.specs.declared.Meter.{Meter}
-use Rattle.meter.specs.declared.Report.{Report}
 use Rattle.meter.proofs.Running.{publishedReport}
-use Rattle.phr.specs.Bytes.{lowFirst, twosComplement, valuesBytes}
-use Rattle.phr.specs.File.{header, fileOf, mostValues, valueInRange, Proper, IsFile, AreBytes}
+use Rattle.phr.specs.File.{fileOf, mostValues, valueInRange, Proper, IsFile, AreBytes}
 use Rattle.phr.specs.Reading.{readRefusal, readAnswer, valuesOf}
 use Rattle.phr.proofs.AnswerCases.{readBuffer}
 use Rattle.phr.specs.Writing.{writeRefusal}
@@ -260,49 +254,6 @@ module _ (m : ℕ) (xs : List Float) (buffer : List ℤ) (nothing : floatRefusal
 
 -- ---- the running meter
 
--- what a sample does to any meter that passes the tests: d is the difference that comes, e the one that goes
-module _ (x : Meter) (ring : List ℤ) (v : ℤ) where
-  abbrev y : Meter
-  y = withSample x ring v
-
-  pub sample-works : let old : (ℕ → ℤ) = λ k. at ring (k % (3 * x .m)) in
-      let d : ℤ = v -ℤ pos 2 *ℤ old (x .n - x .m) +ℤ old (x .n - 2 * x .m) in
-      let e : ℤ = old (x .n - x .m) -ℤ pos 2 *ℤ old (x .n - 2 * x .m) +ℤ old (x .n - 3 * x .m) in
-      (y .m ≡ x .m) × (y .n ≡ x .n + 1)
-      × (x .n < 2 * x .m → (y .window ≡ x .window) × (y .a ≡ x .a))
-      × (2 * x .m ≤ x .n → value (y .a) ≡ value (x .a) + square d)
-      × (2 * x .m ≤ x .n → x .n < 3 * x .m → y .window ≡ x .window +ℤ d)
-      × (3 * x .m ≤ x .n → y .window ≡ x .window +ℤ d -ℤ e)
-      × (x .n + 1 < 3 * x .m → y .b ≡ x .b)
-      × (3 * x .m ≤ x .n + 1 → value (y .b) ≡ value (x .b) + square (y .window))
-  unfolding withSample newWindow newDifference oldDifference slot
-  sample-works = (
-    refl,
-    refl,
-    λ few. rw (lt-leb (2 * x .m) (x .n) few, lt-leb (3 * x .m) (x .n) (omega arith)) (refl, refl),
-    λ many. rw (le-leb (2 * x .m) (x .n) many) (value-of-halves _),
-    λ many few. rw (le-leb (2 * x .m) (x .n) many, lt-leb (3 * x .m) (x .n) few) refl,
-    λ many. rw (le-leb (3 * x .m) (x .n) many) refl,
-    λ few. rw (lt-leb (3 * x .m) (x .n + 1) few) refl,
-    λ many. rw (le-leb (3 * x .m) (x .n + 1) many) (value-of-halves _),
-  )
-
--- what a report tells of any meter that passes the tests
-pub report-tells : (x : Meter) → reportAnswer x .number ≡ 0 → let z : Report = reportAnswer x in
-    (2 * x .m + 1 ≤ x .n → (z .allan .number ≡ 0) × SumOf (value (x .a)) (x .n - 2 * x .m) (z .allan .sum) (z .allan .count))
-    × (x .n < 2 * x .m + 1 → z .allan .number ≡ 1)
-    × (3 * x .m ≤ x .n → (z .modified .number ≡ 0) × SumOf (value (x .b)) (x .n - 3 * x .m + 1) (z .modified .sum) (z .modified .count))
-    × (x .n < 3 * x .m → z .modified .number ≡ 1)
-unfolding reportAnswer partOf
-report-tells x answered =
-    let together : holdsTogether x ≡ true = never-false _ (λ e. omega (arith, rw e at answered)) in
-    rw together (
-      λ due. rw (le-leb (2 * x .m + 1) (x .n) due) (refl, (value-of-halves _, refl)),
-      λ short. rw (lt-leb (2 * x .m + 1) (x .n) short) refl,
-      λ due. rw (le-leb (3 * x .m) (x .n) due) (refl, (value-of-halves _, omega arith)),
-      λ short. rw (lt-leb (3 * x .m) (x .n) short) refl,
-    )
-
 pub report-of : (m : ℕ) (h : List ℤ) → PartsOf m h (publishedReport m h .allan) (publishedReport m h .modified)
 unfolding publishedReport
 report-of m h = parts-of m h
@@ -357,13 +308,8 @@ one-value-proper : Proper 1 (pos 0x10203040506 ∷ [])
 unfolding mostValues valueInRange
 one-value-proper = record { known = omega arith; few = omega arith; in-range = λ i inside. let first : i ≡ 0 = omega arith in rw first refl }
 
-pub one-value-file : (buffer : List ℕ) → 16 ≤ length buffer → let r : Refusal = writeRefusal 1 (pos 0x10203040506 ∷ []) (length buffer) in
-    (countAnswer r 16 .count ≡ 16) × (take 16 (bufferLeft r (fileOf 1 (pos 0x10203040506 ∷ [])) buffer)
-    ≡ 0x50 ∷ 0x48 ∷ 0x52 ∷ 0x01 ∷ 0x00 ∷ 0x01 ∷ 0x01 ∷ 0x00 ∷ 0x06 ∷ 0x05 ∷ 0x04 ∷ 0x03 ∷ 0x02 ∷ 0x01 ∷ 0x00 ∷ 0x00 ∷ [])
-unfolding header lowFirst fileOf twosComplement valuesBytes
-one-value-file buffer room =
-    let nothing = writable-none 1 _ (length buffer) (proper-writable one-value-proper room) in
-    (count-of nothing 16 (fileOf 1 (pos 0x10203040506 ∷ [])) buffer, rw (output-left nothing 16 (fileOf 1 (pos 0x10203040506 ∷ [])) buffer) refl)
+pub one-value-unrefused : (room : ℕ) → 16 ≤ room → writeRefusal 1 (pos 0x10203040506 ∷ []) room ≡ none
+one-value-unrefused room enough = writable-none 1 _ room (proper-writable one-value-proper enough)
 
 -- ---- fractions and deviations
 

@@ -115,7 +115,7 @@ pub data OfDrift (xs : List ℤ) : ℕ → ℕ → Type 0 where
   few : length xs < 3 → OfDrift xs 1 0
   range : {i : ℕ} → Between 3 32768 (length xs) → First (length xs) (OutOfRange xs) i → OfDrift xs 3 i
 
--- remove_drift: all samples are tested first
+-- remove_drift: all samples are tested first; what withoutDrift gives is pinned by results-published (proofs/Condition2.antt)
 pub data OfRemoval (xs : List ℤ) (room : ℕ) : ℕ → ℕ → Type 0 where
   many : 32768 < length xs → OfRemoval xs room 2 0
   few : length xs < 3 → OfRemoval xs room 1 0
