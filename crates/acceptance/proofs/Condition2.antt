@@ -63,6 +63,8 @@ use Rattle.ploegelster.proofs.drawing.plg_noise_type.Reads as plg-noise-type
 use Rattle.ploegelster.proofs.drawing.plg_noise_type.Kinds as plg-noise-type-kinds
 use Rattle.ploegelster.proofs.drawing.plg_noise_of_record.Reads as plg-noise-of-record
 use Rattle.ploegelster.proofs.drawing.plg_noise_of_record.Kinds as plg-noise-of-record-kinds
+use Rattle.ploegelster.proofs.drawing.plg_bars.Reads as plg-bars
+use Rattle.ploegelster.proofs.drawing.plg_bars.Kinds as plg-bars-kinds
 use Rattle.noise.specs.Noise.{alphaOf, toldAlpha}
 use Rattle.noise.specs.declared.Noise.the-variants.{WhitePhase, FlickerPhase, WhiteFrequency, FlickerFrequency, RandomWalkFrequency}
 use Rattle.noise.proofs.noise_type.Reads as noise-type
@@ -79,7 +81,7 @@ use Rattle.phr.proofs.write_file.Reads as write-file
 use Rattle.phr.proofs.write_file.Kinds as write-file-kinds
 use Rattle.acceptance.specs.Figures.{sumIs, fractionIs, squares}
 use Rattle.acceptance.specs.Grounds
-use Rattle.acceptance.specs.Promises.{SumOf, PartsOf, FractionOf, BackAndForth, DotOf, ToldAs, TypeByTable, NoiseOf, BarsOf, DriftRemoved, ReadsBack}
+use Rattle.acceptance.specs.Promises.{SumOf, PartsOf, FractionOf, BackAndForth, DotOf, ToldAs, TypeByTable, NoiseOf, HalfOf, BarsOf, DriftRemoved, ReadsBack}
 use Rattle.acceptance.proofs.Grounding.{answered-none}
 use Rattle.acceptance.proofs.RecordGrounds.{record-agrees, multiple-agrees}
 use Rattle.acceptance.proofs.FigureGrounds.{fraction-agrees, deviation-agrees, dotted-none}
@@ -88,8 +90,8 @@ use Rattle.acceptance.proofs.ReadingGrounds.{readings-agree}
 use Rattle.acceptance.proofs.TypeGrounds.{type-agrees, bars-agree, alpha-within}
 use Rattle.acceptance.proofs.RecordTypeGrounds.{record-type-agrees}
 use Rattle.acceptance.proofs.FileGrounds.{writing-agrees, reading-agrees}
-use Rattle.acceptance.proofs.Grounds.{allan-sum-grounds, modified-sum-grounds, allan-fraction-grounds, time-fraction-grounds, allan-deviation-grounds, time-deviation-grounds, phase-from-frequency-grounds, frequency-from-phase-grounds, drift-figure-grounds, remove-drift-grounds, float-sums-grounds, drawn-number-grounds, allan-dot-grounds, time-dot-grounds, noise-type-grounds, noise-of-record-grounds, plg-noise-type-grounds, plg-noise-of-record-grounds, bars-grounds, read-file-grounds, write-file-grounds}
-use Rattle.acceptance.proofs.PromiseLaws.{allan-sum-of, modified-sum-of, phases-of, differences-of, differences-left, back-and-forth, drift-of, result-of, drift-removed, float-sums-of, float-samples-of, reads-files-alone, reads-every-file, count-of, output-left, file-left, one-value-unrefused, written-proper, reads-back, drawn-of, dot-told, allan-dot-of, time-dot-of, allan-fraction-of, time-fraction-of, allan-deviation-of, time-deviation-of, allan-deviation-of-record, time-deviation-of-record, type-of, noise-of, bars-of}
+use Rattle.acceptance.proofs.Grounds.{allan-sum-grounds, modified-sum-grounds, allan-fraction-grounds, time-fraction-grounds, allan-deviation-grounds, time-deviation-grounds, phase-from-frequency-grounds, frequency-from-phase-grounds, drift-figure-grounds, remove-drift-grounds, float-sums-grounds, drawn-number-grounds, allan-dot-grounds, time-dot-grounds, noise-type-grounds, noise-of-record-grounds, plg-noise-type-grounds, plg-noise-of-record-grounds, bars-grounds, plg-bars-grounds, read-file-grounds, write-file-grounds}
+use Rattle.acceptance.proofs.PromiseLaws.{allan-sum-of, modified-sum-of, phases-of, differences-of, differences-left, back-and-forth, drift-of, result-of, drift-removed, float-sums-of, float-samples-of, reads-files-alone, reads-every-file, count-of, output-left, file-left, one-value-unrefused, written-proper, reads-back, drawn-of, dot-told, allan-dot-of, time-dot-of, allan-fraction-of, time-fraction-of, allan-deviation-of, time-deviation-of, allan-deviation-of-record, time-deviation-of-record, type-of, noise-of, bars-of, half-below-deviation}
 use Rattle.acceptance.proofs.Figures.{starred-figures}
 
 -- ---- the published sums: x the record, N its length, m the factor
@@ -282,6 +284,15 @@ pub bars-published : Always 0 bars-kinds.ps bars-kinds.r bars.Post
     (λ κs args z w. let r = args .0 in let type = args .1 .0 in let M = args .1 .1 .0 in z .number ≡ 0 → BarsOf r (alphaOf type) M z)
 bars-published κs args z w is answered =
     rw is (bars-of _ _ _ (answered-none (bars-agree _ _ _ (alpha-within _)) (bars-grounds κs args z w is) answered))
+
+-- Whatever is answered has h below r, so that r-h is at least 1 (K10); in C too.
+pub bars-half-below : Always 0 bars-kinds.ps bars-kinds.r bars.Post
+    (λ κs args z w. let r = args .0 in let type = args .1 .0 in let M = args .1 .1 .0 in z .number ≡ 0 → (h : ℕ) → HalfOf r (alphaOf type) M h → h < r)
+bars-half-below κs args z w is answered h = half-below-deviation _ _ _ (bars-grounds κs args z w is .answered answered .1)
+
+pub plg-bars-half-below : Always 0 plg-bars-kinds.ps plg-bars-kinds.r plg-bars.Post
+    (λ κs args z w. let r = args .0 in let alpha = args .1 .0 in let M = args .1 .1 .0 in z .number ≡ 0 → (h : ℕ) → HalfOf r alpha M h → h < r)
+plg-bars-half-below κs args z w is answered h = half-below-deviation _ _ _ (plg-bars-grounds κs args z w is .answered answered .1)
 
 -- ---- drift
 

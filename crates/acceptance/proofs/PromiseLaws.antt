@@ -70,12 +70,12 @@ use Rattle.noise.specs.Bars.{barWidth, barHalf, barsRefusal, barOf, barsAnswer}
 use Rattle.noise.specs.declared.Noise.{Noise}
 use Rattle.noise.specs.declared.Noise.the-variants.{WhitePhase, FlickerPhase, WhiteFrequency, FlickerFrequency, RandomWalkFrequency}
 use Rattle.noise.proofs.NoiseLaws.{noiseDemand, noise-given, sound-at-factor, sound-at-double}
-use Rattle.noise.proofs.BarLaws.{unrefused-barred, half-is-greatest, half-within}
+use Rattle.noise.proofs.BarLaws.{unrefused-barred, half-is-greatest, below-deviation, half-below}
 use Rattle.ploegelster.specs.Boundary.{dotKind, toldDot}
 use Rattle.acceptance.specs.Grounds
-use Rattle.acceptance.specs.Grounds.{NoRow, OfDrawn}
+use Rattle.acceptance.specs.Grounds.{NoRow, OfDrawn, OfBars}
 use Rattle.acceptance.specs.Promises
-use Rattle.acceptance.specs.Promises.{SumOf, PartsOf, FractionOf, BackAndForth, DotOf, ToldAs, TypeByTable, NoiseOf, Kappa, BarsOf, DriftRemoved, ReadsBack}
+use Rattle.acceptance.specs.Promises.{SumOf, PartsOf, FractionOf, BackAndForth, DotOf, ToldAs, TypeByTable, NoiseOf, Kappa, HalfOf, BarsOf, DriftRemoved, ReadsBack}
 
 -- ---- sums, of a record that is not refused
 
@@ -486,21 +486,35 @@ kappa-by-alpha WhiteFrequency = Promises.white-frequency
 kappa-by-alpha FlickerFrequency = Promises.flicker-frequency
 kappa-by-alpha RandomWalkFrequency = Promises.random-walk-frequency
 
+-- where no row of the table holds, r is at least 1 and M at least 10, and every kappa is below 100: so h is below r
+kappa-below : {alpha : ℤ} {kappa : ℕ} → Kappa alpha kappa → kappa < 100
+kappa-below Promises.white-phase = omega arith
+kappa-below Promises.flicker-phase = omega arith
+kappa-below Promises.white-frequency = omega arith
+kappa-below Promises.flicker-frequency = omega arith
+kappa-below Promises.random-walk-frequency = omega arith
+
+pub half-below-deviation : (r : ℕ) (alpha : ℤ) (m : ℕ) → NoRow (OfBars r alpha m) → {h : ℕ} → HalfOf r alpha m h → h < r
+half-below-deviation r alpha m no-row half =
+    let typed : 2 < natAbs alpha → ⊥ = λ beyond. no-row _ _ (Grounds.no-type beyond) in
+    let some : r ≡ 0 → ⊥ = λ nought. no-row _ _ (Grounds.nought (omega arith) nought) in
+    let most : 2 ^ 62 < r → ⊥ = λ large. no-row _ _ (Grounds.above (omega arith) large) in
+    let enough : m < 10 → ⊥ = λ few. no-row _ _ (Grounds.few (omega arith) (omega arith, omega arith) few) in
+    below-deviation r (half .kappa) m (kappa-below (half .by-alpha)) (omega arith) (omega arith) (half .greatest)
+
 pub bars-of : (r : ℕ) (t : Noise) (m : ℕ) → barsRefusal r m ≡ none → BarsOf r (alphaOf t) m (barsAnswer r t m)
 unfolding barsAnswer barOf barWidth
 bars-of r t m nothing =
     let barred = unrefused-barred r m (rw nothing) in
     let some : 1 ≤ m = omega (arith, barred .enough) in
-    let within = half-within r t m (barred .most) some in
+    let below = half-below t barred in
     rw nothing (record {
-      kappa = kappaOf t;
-      by-alpha = kappa-by-alpha t;
       h = barHalf r t m;
-      greatest = half-is-greatest r t m (barred .most) some;
+      half = record { kappa = kappaOf t; by-alpha = kappa-by-alpha t; greatest = half-is-greatest r t m (barred .most) some };
       low = λ below.
           rw (ne-eqb (r - barHalf r t m) 0 (λ e. omega arith))
           (drawn-is-greatest (omega arith) (omega (arith, barred .most)), refl);
       low-nought = λ touches. rw (eq-eqb (r - barHalf r t m) 0 (omega arith)) (refl, refl);
       mid = drawn-is-greatest (barred .some) (omega (arith, barred .most));
-      high = drawn-is-greatest (omega (arith, barred .some)) (omega (arith, barred .most, within));
+      high = drawn-is-greatest (omega (arith, barred .some)) (omega (arith, barred .most, below));
     })

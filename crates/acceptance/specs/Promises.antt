@@ -96,13 +96,16 @@ pub data Kappa : ℤ → ℕ → Type 0 where
   flicker-frequency : Kappa (negsuc 0) 77
   random-walk-frequency : Kappa (negsuc 1) 75
 
--- w is kappa times r divided by 100, floored; h the greatest whole number with h^2 M not above w^2; three doubles, drawn from r-h, r and r+h, and a
--- flag set exactly if r-h is nought (then 0.0 is drawn)
-pub record BarsOf (r : ℕ) (alpha : ℤ) (M : ℕ) (z : BarsAnswer) : Type 0 where
+-- w is kappa times r divided by 100, floored; h the greatest whole number with h^2 M not above w^2
+pub record HalfOf (r : ℕ) (alpha : ℤ) (M h : ℕ) : Type 0 where
   pub kappa : ℕ
   pub by-alpha : Kappa alpha kappa
-  pub h : ℕ
   pub greatest : Greatest (λ k. leb (k * k * M) (kappa * r / 100 * (kappa * r / 100))) h
+
+-- three doubles, drawn from r-h, r and r+h, and a flag set exactly if r-h is nought (then 0.0 is drawn)
+pub record BarsOf (r : ℕ) (alpha : ℤ) (M : ℕ) (z : BarsAnswer) : Type 0 where
+  pub h : ℕ
+  pub half : HalfOf r alpha M h
   pub low : h < r → GreatestDouble (r - h) (z .bar .low) × (z .touches ≡ false)
   pub low-nought : r ≤ h → (z .bar .low ≡ plusZero) × (z .touches ≡ true)
   pub mid : GreatestDouble r (z .bar .mid)

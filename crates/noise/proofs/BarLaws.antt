@@ -3,7 +3,7 @@
 use mathlib.Core.Path.{_≡_, refl, sym, ap, ap₂, subst, _∙_}
 use mathlib.Core.Bool.{Bool, true, false, cond}
 use Prim.Native.Nat.{ℕ, _+_, _-_, _*_, _/_, _%_, _^_, _≤_, _<_}
-use native.Mathlib.Nat.{div-add-mod, mul-add-div, mul-add, mul-left-comm, mul-le-mul, mul-le-mul-left, div-le-self, div-le-of-le-mul, le-div-iff-mul-le, lt-of-le-of-lt, le-trans}
+use native.Mathlib.Nat.{div-add-mod, mul-add-div, mul-add, mul-left-comm, mul-le-mul, mul-le-mul-left, mul-le-mul-right, div-le-self, le-div-iff-mul-le, lt-of-le-of-lt}
 use native.Mathlib.Omega.{arith}
 use borrow.Author.Tests.{eq-eqb, ne-eqb, lt-ltb, le-ltb, ltb-false, eqb-true, eqb-false, le-leb, leb-true}
 use lib.Dec.{T, leb, ltb, eqb, leb→le}
@@ -98,10 +98,11 @@ width-in-parts r kappa =
     omega (arith, mul-left-comm 100 kappa (r / 100), mul-add kappa (100 * (r / 100)) (r % 100), ap (λ (t : ℕ). kappa * t) (div-add-mod r 100)) in
     sym (mul-add-div {m = 100} (omega arith) (kappa * (r / 100)) (kappa * (r % 100))) ∙ ap (λ (n : ℕ). n / 100) whole
 
-pub width-not-above : (r kappa : ℕ) → kappa < 100 → kappa * r / 100 ≤ r
-width-not-above r kappa below = div-le-of-le-mul 100 (mul-le-mul {m₁ = r} (omega arith) (omega arith))
-
 module _ (r kappa : ℕ) (below : kappa < 100) where
+  -- 100 w is at most 99 r
+  pub hundred-widths : 100 * (kappa * r / 100) ≤ 99 * r
+  hundred-widths = omega (arith, mul-le-mul-right {m = kappa} {n = 99} r (omega arith))
+
   pub hundreds-below : r ≤ 2 ^ 62 → kappa * (r / 100) < 2 ^ 62
   hundreds-below most = omega (arith, mul-le-mul {n₁ = kappa} {m₁ = r / 100} {n₂ = 99} {m₂ = 2 ^ 62 / 100} (omega arith) (omega arith))
 
@@ -148,25 +149,27 @@ module _ (w m : ℕ) (some : 1 ≤ m) where
 
 -- ---- of a deviation r up to 2^62 with noise of a type over M intervals, M above nought
 module _ (r : ℕ) (t : Noise) (m : ℕ) (most : r ≤ 2 ^ 62) (some : 1 ≤ m) where
-  pub width-within : barWidth r t ≤ r
-  unfolding barWidth
-  width-within = width-not-above r (kappaOf t) (kappa-within t)
-
   -- h^2 M is not above w^2, and no greater number's is
   pub half-is-greatest : Greatest (λ h. leb (h * h * m) (barWidth r t * barWidth r t)) (barHalf r t m)
-  unfolding barHalf
-  half-is-greatest = half-of-squares (barWidth r t) m some (omega (arith, width-within))
+  unfolding barWidth barHalf
+  half-is-greatest = half-of-squares (barWidth r t) m some (omega (arith, hundred-widths r (kappaOf t) (kappa-within t)))
 
   -- and it is the only such number
   pub half-is-only : (h : ℕ) → Greatest (λ h. leb (h * h * m) (barWidth r t * barWidth r t)) h → h ≡ barHalf r t m
   half-is-only h is = one-greatest is half-is-greatest
 
-  pub half-within-width : barHalf r t m ≤ barWidth r t
-  half-within-width = half-not-above (barWidth r t) m some half-is-greatest
+-- ---- h is below r, so that r - h is at least 1
 
-  -- so r - h is no wrap
-  pub half-within : barHalf r t m ≤ r
-  half-within = le-trans half-within-width width-within
+-- whatever kappa below 100 hundredths the width is of, and however many intervals: h^2 is at most h^2 M, which is at most w^2
+pub below-deviation : (r kappa m : ℕ) → kappa < 100 → 1 ≤ r → 1 ≤ m → {h : ℕ} → Greatest (λ k. leb (k * k * m) (kappa * r / 100 * (kappa * r / 100))) h → h < r
+below-deviation r kappa m below least some is =
+    omega (arith, half-not-above (kappa * r / 100) m some is, hundred-widths r kappa below)
+
+pub half-below : {r m : ℕ} (t : Noise) → Barred r m → barHalf r t m < r
+unfolding barWidth
+half-below {r} {m} t known =
+    let some : 1 ≤ m = omega (arith, known .enough) in
+    below-deviation r (kappaOf t) m (kappa-within t) (known .some) some (half-is-greatest r t m (known .most) some)
 
 -- ---- the flag
 

@@ -1,4 +1,5 @@
 pub mod Tables
 pub mod NoiseLaws
 pub mod BarLaws
+pub mod Answered
 pub mod Unique

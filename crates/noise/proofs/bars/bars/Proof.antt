@@ -1,10 +1,10 @@
 -- `noise::bars::bars` meets its contract.
 use borrow.Author.Needs.{needs}
 use mathlib.Core.Path.{_≡_}
-use Prim.Native.Nat.{_≤_}
+use Prim.Native.Nat.{_<_}
 use native.Mathlib.Omega.{arith}
 use Rattle.noise.specs.Bars.{barHalf}
-use Rattle.noise.proofs.BarLaws.{Barred, nothing-refused, kappa-within, half-is, half-within, bars-refused, bars-given}
+use Rattle.noise.proofs.BarLaws.{Barred, nothing-refused, kappa-within, half-is, half-below, bars-refused, bars-given}
 use Rattle.noise.proofs.bars.bars.Statement.{statement}
 use Rattle.noise.proofs.bars.bars.Tie as tie
 
@@ -32,20 +32,18 @@ half-of-requires c κs = omega (arith, barred (c .before .before) .enough)
 half : (c : tie.After-half-of) → let x = c .before .before .before .before .before .before .args in c .half-of .result ≡ barHalf (x .r) (x .noise) (x .intervals)
 half c = half-is _ _ _ (c .before .before .kappa .ensures) (c .before .width-of .ensures) (c .half-of .ensures)
 
-half-below : (c : tie.After-half-of) → let x = c .before .before .before .before .before .before .args in c .half-of .result ≤ x .r
-half-below c =
-    let known = barred (c .before .before .before) in
-    rw (half c) (half-within _ _ _ (known .most) (omega (arith, known .enough)))
+below : (c : tie.After-half-of) → let x = c .before .before .before .before .before .before .args in c .half-of .result < x .r
+below c = rw (half c) (half-below _ (barred (c .before .before .before)))
 
 bar-of-requires : tie.Need-bar-of-requires
 bar-of-requires c κs =
     let known = barred (c .before .before .before) in
-    (known .some, known .most, half-below c)
+    (known .some, known .most, omega (arith, below c))
 
 returns-2 : tie.Need-returns-2
 returns-2 c =
     let else = c .before .before .before .before in
-    bars-given _ _ _ (else .before .before .bars-refusal .ensures) (else .if1 .left) (half (c .before)) (half-below (c .before)) (c .bar-of .ensures)
+    bars-given _ _ _ (else .before .before .bars-refusal .ensures) (else .if1 .left) (half (c .before)) (omega (arith, below (c .before))) (c .bar-of .ensures)
 
 pub bars-spec : {M : Type 1} → statement M
 bars-spec =
