@@ -1,6 +1,7 @@
 /* Which of two crystals goes down: the one with the smaller Allan deviation at factor 2. Then the first record again, sample by sample. Every answer
  * is tested before anything of it is kept or passed on: a refused sum passed on looks like the best crystal. */
 #include <inttypes.h>
+#include <stdbool.h>
 #include <stdio.h>
 
 #include "ploegelster.h"

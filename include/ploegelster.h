@@ -38,7 +38,6 @@
 #ifndef PLOEGELSTER_H
 #define PLOEGELSTER_H
 
-#include <stdbool.h>
 #include <stddef.h>
 #include <stdint.h>
 
@@ -47,7 +46,7 @@ extern "C" {
 #endif
 
 /** The version: the first number changes where a program that used the one before must be changed or compiled anew. */
-#define PLG_VERSION_MAJOR 2
+#define PLG_VERSION_MAJOR 3
 #define PLG_VERSION_MINOR 0
 #define PLG_VERSION_PATCH 0
 
@@ -151,8 +150,8 @@ typedef struct { uint64_t number, place; int64_t alpha; } plg_noise_answer;
 /** A bar row: three doubles, drawn from r-h, r and r+h. */
 typedef struct { double low, mid, high; } plg_bar;
 
-/** A bar row, and whether r-h is nought. */
-typedef struct { uint64_t number, place; plg_bar bar; bool touches; } plg_bars_answer;
+/** A bar row. Where the call was answered, each of the three doubles is a drawn number, above nought. */
+typedef struct { uint64_t number, place; plg_bar bar; } plg_bars_answer;
 
 /** The running meter. At first all noughts; after that, as the latest call gave it back. Any content is answered or refused. */
 typedef struct { uint64_t m, n; plg_wide a, b; int64_t window; } plg_meter;
@@ -258,7 +257,8 @@ plg_noise_answer plg_noise_of_record(const int64_t *samples, size_t samples_leng
 
 /**
  * The bars of deviation r, for noise of type alpha over M intervals, M the whole part of (N-1)/m: w is kappa, in hundredths, times r divided by 100,
- * floored; h is the greatest whole number with h^2 M not above w^2.
+ * floored; h is the greatest whole number with h^2 M not above w^2. Whatever is answered has h below r, so that r-h is at least 1 and no lower end is
+ * nought: theorem plg-bars-half-below, crates/acceptance/proofs/Condition2.antt.
  * Refuses 3 (alpha not from -2 to 2), 8 (r = 0), 3 (r above 2^62), 1 (M below 10), 2 (M above 32,767), all at place 0.
  */
 plg_bars_answer plg_bars(uint64_t r, int64_t alpha, uint64_t intervals);

@@ -23,7 +23,7 @@ GROUNDS = "crates/acceptance/proofs/Grounds.antt"
 PLAIN = {"requires", "ensures", "f64", "&[f64]", "&mut [i64]"}
 # Where a field has one name in the sources and another in C.
 C_FIELDS = {"hi": "high", "lo": "low"}
-C_TYPES = {"uint64_t": "u64", "int64_t": "i64", "uint8_t": "u8", "size_t": "usize", "double": "f64", "bool": "bool"}
+C_TYPES = {"uint64_t": "u64", "int64_t": "i64", "uint8_t": "u8", "size_t": "usize", "double": "f64"}
 
 Function = namedtuple("Function", "crate path owner name exported clauses parameters answer")
 

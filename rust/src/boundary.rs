@@ -166,7 +166,7 @@ pub struct NoiseAnswer {
 #[repr(C)]
 #[derive(Clone, Copy, Debug, PartialEq)]
 pub struct Bar {
-    /// Drawn from r-h; 0.0 where that is nought.
+    /// Drawn from r-h, which is at least 1 where the call was answered.
     pub low: f64,
     /// Drawn from r.
     pub mid: f64,
@@ -174,7 +174,7 @@ pub struct Bar {
     pub high: f64,
 }
 
-/// A bar row, and whether r-h is nought.
+/// A bar row. Where the call was answered, each of the three doubles is a drawn number, above nought.
 #[must_use]
 #[repr(C)]
 #[derive(Clone, Copy, Debug, PartialEq)]
@@ -185,8 +185,6 @@ pub struct BarsAnswer {
     pub place: u64,
     /// The row.
     pub bar: Bar,
-    /// Whether r-h is nought.
-    pub touches: bool,
 }
 
 /// The running meter. At first all noughts; after that, as the latest call gave it back. Any content is answered or refused.

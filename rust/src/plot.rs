@@ -60,14 +60,12 @@ impl Noise {
 #[must_use]
 #[derive(Clone, Copy, Debug, PartialEq)]
 pub struct Bars {
-    /// Drawn from r-h; 0.0 where that is nought.
+    /// Drawn from r-h, which is at least 1.
     pub low: f64,
     /// Drawn from r.
     pub mid: f64,
     /// Drawn from r+h.
     pub high: f64,
-    /// Whether r-h is nought.
-    pub touches: bool,
 }
 
 fn dot_of(answer: DotAnswer) -> Result<Dot, Refusal> {
@@ -129,12 +127,12 @@ pub fn noise_of_record(samples: &[i64], m: u64) -> Result<Noise, Refusal> {
 }
 
 /// The bars of deviation r, for noise of this type over M intervals, M the whole part of (N-1)/m: w is kappa, in hundredths, times r divided by 100,
-/// floored; h is the greatest whole number with h^2 M not above w^2.
+/// floored; h is the greatest whole number with h^2 M not above w^2. Whatever is answered has h below r: no lower end is nought.
 ///
 /// Refuses 8 (r = 0), 3 (r above 2^62), 1 (M below 10), 2 (M above 32,767), all at place 0.
 pub fn bars(r: u64, noise: Noise, intervals: u64) -> Result<Bars, Refusal> {
     let answer = unsafe { boundary::plg_bars(r, noise.alpha(), intervals) };
     answered(answer.number, answer.place)?;
     let boundary::Bar { low, mid, high } = answer.bar;
-    Ok(Bars { low, mid, high, touches: answer.touches })
+    Ok(Bars { low, mid, high })
 }

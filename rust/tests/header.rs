@@ -1,7 +1,7 @@
 //! The declarations that the other tests call through are those of include/ploegelster.h, struct by struct and function by function, and its version,
 //! its numbers and its words are this crate's.
 
-use ploegelster::{refusal_text, Ground, Kind, Noise};
+use ploegelster::{boundary, refusal_text, Ground, Kind, Noise};
 use std::collections::{BTreeMap, BTreeSet};
 
 const HEADER: &str = include_str!("../../include/ploegelster.h");
@@ -67,7 +67,6 @@ fn rust_type(c: &str) -> String {
         "int64_t" => "i64".to_string(),
         "size_t" => "usize".to_string(),
         "double" => "f64".to_string(),
-        "bool" => "bool".to_string(),
         _ => {
             let words = name.strip_prefix("plg_").expect("a type of the header").split('_');
             words.map(|word| word[..1].to_uppercase() + &word[1..]).collect()
@@ -148,6 +147,18 @@ fn same_declarations() {
         let (function, kind) = (format!("fn {name}"), format!("struct {}", rust_type(&name)));
         assert!(declared.contains(&function) || declared.contains(&kind), "{name}");
     }
+}
+
+/// The answer of a bar row is number, place and three doubles, with no room for anything else, and the header needs no type of true and false.
+#[test]
+fn a_bar_row_is_three_doubles() {
+    let declared = of_header();
+    for line in ["struct Bar { low: f64, mid: f64, high: f64 }", "struct BarsAnswer { number: u64, place: u64, bar: Bar }"] {
+        assert!(declared.contains(line), "{line}");
+    }
+    assert_eq!(std::mem::size_of::<boundary::BarsAnswer>(), 5 * 8);
+    // In no spelling: neither bool nor _Bool nor stdbool.h.
+    assert!(!HEADER.to_lowercase().contains("bool"));
 }
 
 #[test]

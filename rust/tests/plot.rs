@@ -5,11 +5,13 @@ mod shared;
 
 use independent::noise::{self, Noise};
 use independent::{drawn, Refusal};
+use ploegelster::boundary::Bar;
 use shared::answers::{expected, Words};
 use shared::lent::Lent;
 use shared::random::Random;
 use shared::records::{factors, lengths, maybe_damaged, record};
 use shared::{raw, shown, with_neighbours, Tally};
+use std::collections::BTreeSet;
 
 const TOP: u64 = 1 << 62;
 
@@ -169,14 +171,17 @@ fn noise_of_generated_records() {
     tally.ran(12_000, &[0, 1, 3, 5, 8]);
 }
 
-fn bars_case(tally: &mut Tally, r: u64, alpha: i64, intervals: u64) {
+/// The bars of one deviation, alpha and M. Gives the row over the plain C interface, where there is one.
+fn bars_case(tally: &mut Tally, r: u64, alpha: i64, intervals: u64) -> Option<Bar> {
     let input = || format!("bars, r {r}, alpha {alpha}, M {intervals}");
     // No other number than the five is a type: 3 at place 0, before all else. The wrapper takes no other.
     let own = Noise::of_alpha(alpha).ok_or(Refusal { number: 3, place: 0 }).and_then(|noise| noise::bars(r, noise, intervals));
-    tally.same_raw(&raw::bars(r, alpha, intervals).words(), &expected(&own), input);
+    let raw = raw::bars(r, alpha, intervals);
+    tally.same_raw(&raw.words(), &expected(&own), input);
     if let Some(noise) = ploegelster::Noise::from_alpha(alpha) {
         tally.same_wrapped(&ploegelster::bars(r, noise, intervals), &own, input);
     }
+    (raw.number == 0).then_some(raw.bar)
 }
 
 #[test]
@@ -205,4 +210,46 @@ fn bars_of_generated_deviations() {
         bars_case(&mut tally, r - random.below(3), alpha, root * root);
     }
     tally.ran(40_000, &[0, 3, 8]);
+}
+
+/// So many inputs of bars, each once, of which none is refused: every combination of the ends, then generated ones.
+fn accepted_bars(random: &mut Random, many: usize) -> BTreeSet<(u64, i64, u64)> {
+    let deviations = [1, 2, 3, 4, 100, 101, (1 << 53) - 1, 1 << 53, (1 << 53) + 1, TOP - 1, TOP];
+    // The ends of M, and the squares next to them with their neighbours: 16 is 4 times 4, 32,761 is 181 times 181.
+    let intervals = [10, 11, 15, 16, 17, 32_760, 32_761, 32_762, 32_766, 32_767];
+    let mut inputs = BTreeSet::new();
+    for r in deviations {
+        for alpha in -2..=2 {
+            inputs.extend(intervals.map(|intervals| (r, alpha, intervals)));
+        }
+    }
+    assert_eq!(inputs.len(), 550);
+    while inputs.len() < many {
+        let alpha = random.between(-2, 2);
+        inputs.insert(if random.one_in(2) {
+            // From 1 to 2^62, small as often as large; the deviations beside a square M are large. M is often small: there h is widest.
+            let most_bits = random.pick(&[12, 62]);
+            (random.sized(most_bits) + 1, alpha, random.sized(15).max(10))
+        } else {
+            // A square M and a w that its root divides, or nearly: h changes about here.
+            let root = random.between(4, 181) as u64;
+            ((random.sized(47) + 1) * root * 100 - random.below(3), alpha, root * root)
+        });
+    }
+    inputs
+}
+
+/// Whatever is answered has h below r (K10), so that no lower end is nought and a row needs nothing beside its three doubles.
+#[test]
+fn half_width_is_below_the_deviation() {
+    let (mut tally, mut random) = (Tally::default(), Random::new(37));
+    for (r, alpha, intervals) in accepted_bars(&mut random, 120_000) {
+        let input = || format!("r {r}, alpha {alpha}, M {intervals}");
+        let row = bars_case(&mut tally, r, alpha, intervals).unwrap_or_else(|| panic!("refused: {}", input()));
+        let noise = Noise::of_alpha(alpha).expect("one of the five");
+        let h = noise::half_width(r, noise, intervals);
+        assert!(h < r, "h {h} is not below r: {}", input());
+        assert!(row.low > 0.0 && row.low <= row.mid && row.mid <= row.high, "{row:?}: {}", input());
+    }
+    tally.ran(120_000, &[0]);
 }

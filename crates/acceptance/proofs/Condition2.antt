@@ -4,11 +4,13 @@
 use mathlib.Core.Path.{_≡_, refl, _∙_}
 use mathlib.Core.Bool.{Bool, cond}
 use mathlib.Core.List.{List, [], _∷_}
-use Prim.Native.Nat.{ℕ, _+_, _-_, _*_, _≤_, _<_}
+use Prim.Native.Nat.{ℕ, _+_, _-_, _*_, _^_, _≤_, _<_}
 use native.Mathlib.Omega.{arith}
 use denote.Ref.{now}
 use lib.Ieee.{nan}
 use lib.Ieee.Exact.{HasValue}
+use lib.Ieee.Positive.{positive}
+use lib.Dec.{T}
 use lib.IntN.{ℤ, pos, negsuc, negℤ, _-ℤ_}
 use lib.ListN.{length, getD, take}
 use Rattle.laws.specs.Greatest.{Greatest}
@@ -91,7 +93,7 @@ use Rattle.acceptance.proofs.TypeGrounds.{type-agrees, bars-agree, alph
 use Rattle.acceptance.proofs.RecordTypeGrounds.{record-type-agrees}
 use Rattle.acceptance.proofs.FileGrounds.{writing-agrees, reading-agrees}
 use Rattle.acceptance.proofs.Grounds.{allan-sum-grounds, modified-sum-grounds, allan-fraction-grounds, time-fraction-grounds, allan-deviation-grounds, time-deviation-grounds, phase-from-frequency-grounds, frequency-from-phase-grounds, drift-figure-grounds, remove-drift-grounds, float-sums-grounds, drawn-number-grounds, allan-dot-grounds, time-dot-grounds, noise-type-grounds, noise-of-record-grounds, plg-noise-type-grounds, plg-noise-of-record-grounds, bars-grounds, plg-bars-grounds, read-file-grounds, write-file-grounds}
-use Rattle.acceptance.proofs.PromiseLaws.{allan-sum-of, modified-sum-of, phases-of, differences-of, differences-left, back-and-forth, drift-of, result-of, drift-removed, float-sums-of, float-samples-of, reads-files-alone, reads-every-file, count-of, output-left, file-left, one-value-unrefused, written-proper, reads-back, drawn-of, dot-told, allan-dot-of, time-dot-of, allan-fraction-of, time-fraction-of, allan-deviation-of, time-deviation-of, allan-deviation-of-record, time-deviation-of-record, type-of, noise-of, bars-of, half-below-deviation}
+use Rattle.acceptance.proofs.PromiseLaws.{allan-sum-of, modified-sum-of, phases-of, differences-of, differences-left, back-and-forth, drift-of, result-of, drift-removed, float-sums-of, float-samples-of, reads-files-alone, reads-every-file, count-of, output-left, file-left, one-value-unrefused, written-proper, reads-back, drawn-of, dot-told, allan-dot-of, time-dot-of, allan-fraction-of, time-fraction-of, allan-deviation-of, time-deviation-of, allan-deviation-of-record, time-deviation-of-record, type-of, noise-of, bars-of, half-below-deviation, low-above-nought}
 use Rattle.acceptance.proofs.Figures.{starred-figures}
 
 -- ---- the published sums: x the record, N its length, m the factor
@@ -293,6 +295,12 @@ bars-half-below κs args z w is answered h = half-below-deviation _ _ _ (bars-gr
 pub plg-bars-half-below : Always 0 plg-bars-kinds.ps plg-bars-kinds.r plg-bars.Post
     (λ κs args z w. let r = args .0 in let alpha = args .1 .0 in let M = args .1 .1 .0 in z .number ≡ 0 → (h : ℕ) → HalfOf r alpha M h → h < r)
 plg-bars-half-below κs args z w is answered h = half-below-deviation _ _ _ (plg-bars-grounds κs args z w is .answered answered .1)
+
+-- So its lower end, drawn from r-h, is above nought.
+pub bars-low-above-nought : Always 0 bars-kinds.ps bars-kinds.r bars.Post (λ κs args z w. z .number ≡ 0 → T (positive (z .bar .low)))
+bars-low-above-nought κs args z w is answered =
+    let most : 2 ^ 62 < args .0 → ⊥ = λ large. bars-grounds κs args z w is .answered answered .1 _ _ (Grounds.above (alpha-within _) large) in
+    low-above-nought (omega arith) (bars-published κs args z w is answered)
 
 -- ---- drift
 

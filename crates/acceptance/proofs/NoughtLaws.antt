@@ -235,14 +235,14 @@ alpha-nought a some = rw (ne-eqb (a .number) 0 some) refl
 
 pub bars-noughts : (r : ℕ) (t : Noise) (m : ℕ) → Refused (barsAnswer r t m .number) → BarsNought (barsAnswer r t m)
 unfolding barsAnswer noBar
-bars-noughts r t m some = rw (by-refusal (barsRefusal r m) (λ nothing. rw nothing) some) (refl, refl, refl, refl)
+bars-noughts r t m some = rw (by-refusal (barsRefusal r m) (λ nothing. rw nothing) some) (refl, refl, refl)
 
 pub alpha-bars-noughts : (r : ℕ) (alpha : ℤ) (m : ℕ) → Refused (barsByAlpha r alpha m .number) → BarsNought (barsByAlpha r alpha m)
 unfolding barsByAlpha noSuchType noBar
 alpha-bars-noughts r (pos zero) m some = bars-noughts _ _ _ some
 alpha-bars-noughts r (pos (suc zero)) m some = bars-noughts _ _ _ some
 alpha-bars-noughts r (pos (suc (suc zero))) m some = bars-noughts _ _ _ some
-alpha-bars-noughts r (pos (suc (suc (suc n)))) m some = (refl, refl, refl, refl)
+alpha-bars-noughts r (pos (suc (suc (suc n)))) m some = (refl, refl, refl)
 alpha-bars-noughts r (negsuc zero) m some = bars-noughts _ _ _ some
 alpha-bars-noughts r (negsuc (suc zero)) m some = bars-noughts _ _ _ some
-alpha-bars-noughts r (negsuc (suc (suc n))) m some = (refl, refl, refl, refl)
+alpha-bars-noughts r (negsuc (suc (suc n))) m some = (refl, refl, refl)

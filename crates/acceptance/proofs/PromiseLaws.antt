@@ -6,11 +6,12 @@ use mathlib.Core.Logic.{inl, inr}
 use Prim.Native.Nat.{ℕ, _+_, _-_, _*_, _^_, _≤_, _<_, _∣_}
 use native.Mathlib.Nat.{eq-of-mul-eq-mul-right}
 use native.Mathlib.Omega.{arith}
-use borrow.Author.Tests.{le-leb, lt-leb, ne-eqb, eq-eqb, ltb-false}
-use lib.Dec.{leb}
+use borrow.Author.Tests.{le-leb, lt-leb, ltb-false}
+use lib.Dec.{T, leb}
 use lib.Ieee.{Float, nan, inf, fin, down}
 use lib.Ieee.Exact.{HasValue}
 use lib.Ieee.Fits.{down-pos}
+use lib.Ieee.Positive.{positive}
 use lib.IntN.{ℤ, pos, negℤ, natAbs, _-ℤ_, _*ℤ_}
 use lib.ListN.{length, getD, take}
 use lib.Seq.{take-at}
@@ -63,11 +64,12 @@ use Rattle.plot.specs.Dots.{dotNumber, dotValue, dotAnswer}
 use Rattle.plot.specs.declared.dots.Dot.{Dot}
 use Rattle.plot.specs.declared.dots.Dot.the-variants.{Drawn, Nought, TooFew}
 use Rattle.plot.specs.declared.dots.DotAnswer.{DotAnswer}
-use Rattle.plot.proofs.DrawnLaws.{drawn-is-greatest, drawn-given}
+use Rattle.plot.proofs.DrawnLaws.{drawn-is-greatest, drawn-above-nought, greatest-is-drawn, drawn-given}
 use Rattle.plot.proofs.DotLaws.{nought-dot, drawn-dot}
 use Rattle.noise.specs.Noise.{alphaOf, kappaOf, noiseOf, noiseRefusal, toldAlpha, typeAnswer, timeDeviation, recordTypeAnswer}
 use Rattle.noise.specs.Bars.{barWidth, barHalf, barsRefusal, barOf, barsAnswer}
 use Rattle.noise.specs.declared.Noise.{Noise}
+use Rattle.noise.specs.declared.bars.BarsAnswer.{BarsAnswer}
 use Rattle.noise.specs.declared.Noise.the-variants.{WhitePhase, FlickerPhase, WhiteFrequency, FlickerFrequency, RandomWalkFrequency}
 use Rattle.noise.proofs.NoiseLaws.{noiseDemand, noise-given, sound-at-factor, sound-at-double}
 use Rattle.noise.proofs.BarLaws.{unrefused-barred, half-is-greatest, below-deviation, half-below}
@@ -511,10 +513,14 @@ bars-of r t m nothing =
     rw nothing (record {
       h = barHalf r t m;
       half = record { kappa = kappaOf t; by-alpha = kappa-by-alpha t; greatest = half-is-greatest r t m (barred .most) some };
-      low = λ below.
-          rw (ne-eqb (r - barHalf r t m) 0 (λ e. omega arith))
-          (drawn-is-greatest (omega arith) (omega (arith, barred .most)), refl);
-      low-nought = λ touches. rw (eq-eqb (r - barHalf r t m) 0 (omega arith)) (refl, refl);
+      below = below;
+      low = drawn-is-greatest (omega arith) (omega (arith, barred .most));
       mid = drawn-is-greatest (barred .some) (omega (arith, barred .most));
-      high = drawn-is-greatest (omega (arith, barred .some)) (omega (arith, barred .most, below));
+      high = drawn-is-greatest (omega (arith, barred .some)) (omega (arith, barred .most));
     })
+
+-- so the lower end is above nought
+pub low-above-nought : {r : ℕ} {alpha : ℤ} {m : ℕ} {z : BarsAnswer} → r ≤ 2 ^ 62 → BarsOf r alpha m z → T (positive (z .bar .low))
+low-above-nought most bars =
+    let least = bars .below in
+    subst (λ (x : Float). T (positive x)) (sym (greatest-is-drawn (omega arith) (omega arith) (bars .low))) (drawn-above-nought (omega arith) (omega arith))

@@ -82,7 +82,7 @@ pub record Starred : Type 0 where
   pub falling-drift : Drift (pos 0 ∷ pos 0 ∷ pos 0 ∷ negsuc 0 ∷ []) (negsuc 0) 2 (pos 0 ∷ pos 0 ∷ pos 1 ∷ pos 1 ∷ [])
   -- h = 77,000: 923,000 and 1,000,000 and 1,077,000 over 2^20, each as a whole number times a power of two
   pub bar : barsAnswer 1000000 FlickerFrequency 100
-      ≡ record { number = 0; place = 0; bar = record { low = fin false 115375 (negsuc 16); mid = fin false 15625 (negsuc 13); high = fin false 134625 (negsuc 16) }; touches = false }
+      ≡ record { number = 0; place = 0; bar = record { low = fin false 115375 (negsuc 16); mid = fin false 15625 (negsuc 13); high = fin false 134625 (negsuc 16) } }
   pub flicker-phase : Typed 4096 4096 (pos 1)
   pub at-the-bound : Typed 4096 3444 (pos 2)
   pub past-the-bound : Typed 4096 3445 (pos 1)

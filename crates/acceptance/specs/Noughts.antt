@@ -1,7 +1,6 @@
 -- What it means that a call is refused, and, where a value has parts, that it is nought beside the refusal. The place is part of the refusal: an index,
 -- a byte offset, or 0.
 use mathlib.Core.Path.{_≡_}
-use mathlib.Core.Bool.{false}
 use Prim.Native.Nat.{ℕ}
 use Rattle.wide.specs.Wide.{value}
 use Rattle.wide.specs.declared.Wide.{Wide}
@@ -32,4 +31,4 @@ abbrev pub DotNought : Dot → Type 0
 DotNought d = (d ≡ Nought) × (dotNumber d ≡ 0) × (dotValue d ≡ plusZero)
 
 abbrev pub BarsNought : BarsAnswer → Type 0
-BarsNought z = (z .bar .low ≡ plusZero) × (z .bar .mid ≡ plusZero) × (z .bar .high ≡ plusZero) × (z .touches ≡ false)
+BarsNought z = (z .bar .low ≡ plusZero) × (z .bar .mid ≡ plusZero) × (z .bar .high ≡ plusZero)

@@ -1,7 +1,6 @@
 -- What conditions 2 and 3 promise of each figure, in the rules' words: the published figure, and nothing about how it is worked. Where a call is
 -- answered at all is told by Grounds.antt.
 use mathlib.Core.Path.{_≡_}
-use mathlib.Core.Bool.{true, false}
 use mathlib.Core.List.{List}
 use Prim.Native.Nat.{ℕ, _+_, _-_, _*_, _/_, _^_, _≤_, _<_, _∣_}
 use lib.Dec.{leb}
@@ -102,12 +101,12 @@ pub record HalfOf (r : ℕ) (alpha : ℤ) (M h : ℕ) : Type 0 where
   pub by-alpha : Kappa alpha kappa
   pub greatest : Greatest (λ k. leb (k * k * M) (kappa * r / 100 * (kappa * r / 100))) h
 
--- three doubles, drawn from r-h, r and r+h, and a flag set exactly if r-h is nought (then 0.0 is drawn)
+-- three doubles, drawn from r-h, r and r+h; h is below r
 pub record BarsOf (r : ℕ) (alpha : ℤ) (M : ℕ) (z : BarsAnswer) : Type 0 where
   pub h : ℕ
   pub half : HalfOf r alpha M h
-  pub low : h < r → GreatestDouble (r - h) (z .bar .low) × (z .touches ≡ false)
-  pub low-nought : r ≤ h → (z .bar .low ≡ plusZero) × (z .touches ≡ true)
+  pub below : h < r
+  pub low : GreatestDouble (r - h) (z .bar .low)
   pub mid : GreatestDouble r (z .bar .mid)
   pub high : GreatestDouble (r + h) (z .bar .high)
 

@@ -38,7 +38,7 @@ pub(crate) fn figures() {
     }
 }
 
-// One line: the lower end, the middle and the upper end, and the flag. Since h is below r for every M that is taken, no bar has it set.
+// One line: the lower end, the middle and the upper end.
 fn line(row: [u64; 3]) {
     let r = row[0];
     let place = row[1];
@@ -51,11 +51,7 @@ fn line(row: [u64; 3]) {
         return;
     }
     doubles(answer.bar);
-    if answer.touches {
-        text(b", flag set\n");
-        return;
-    }
-    text(b", flag not set\n");
+    text(b"\n");
 }
 
 // The deviation, the type and M.

@@ -1,9 +1,8 @@
 -- What holds of every bar that is answered: h is below r, so that the lower end is drawn from 1 or more.
 use mathlib.Core.Path.{_≡_, refl}
 use mathlib.Core.Bool.{Bool, true, false, cond}
-use Prim.Native.Nat.{ℕ, _-_, _<_}
-use native.Mathlib.Omega.{arith}
-use borrow.Author.Tests.{eqb-true, ne-eqb}
+use Prim.Native.Nat.{ℕ, _<_}
+use borrow.Author.Tests.{eqb-true}
 use lib.Dec.{eqb}
 use Rattle.laws.specs.Single.{Always}
 use Rattle.noise.specs.Bars.{barHalf, barsRefusal, barOf, noBar, barsAnswer}
@@ -16,33 +15,11 @@ answered-barred : (r : ℕ) (t : Noise) (m : ℕ) → barsAnswer r t m .number �
 unfolding barsAnswer
 answered-barred r t m = by-refusal (eqb (barsRefusal r m .number) 0) refl
   where
-    h : ℕ
-    h = barHalf r t m
-
     by-refusal : (nothing : Bool) → eqb (barsRefusal r m .number) 0 ≡ nothing →
-        cond nothing (given (barOf r h) (eqb (r - h) 0)) (givenUp (barsRefusal r m) noBar) .number ≡ 0 → Barred r m
+        cond nothing (given (barOf r (barHalf r t m))) (givenUp (barsRefusal r m) noBar) .number ≡ 0 → Barred r m
     by-refusal true none-refused answered = unrefused-barred r m (eqb-true _ 0 none-refused)
     by-refusal false some-refused answered = unrefused-barred r m answered
 
 pub answered-half-below : Always 0 bars-kinds.ps bars-kinds.r bars.Post
     (λ κs args z w. let r = args .0 in let type = args .1 .0 in let M = args .1 .1 .0 in z .number ≡ 0 → barHalf r type M < r)
 answered-half-below κs args z w is answered = half-below _ (answered-barred _ _ _ (rw is at answered))
-
--- so no answer sets the flag
-flag-falls : (r h : ℕ) → h < r → eqb (r - h) 0 ≡ false
-flag-falls r h below = ne-eqb (r - h) 0 (λ e. omega arith)
-
-never-set : (r : ℕ) (t : Noise) (m : ℕ) → barsAnswer r t m .touches ≡ false
-unfolding barsAnswer
-never-set r t m = by-refusal (eqb (barsRefusal r m .number) 0) refl
-  where
-    h : ℕ
-    h = barHalf r t m
-
-    by-refusal : (nothing : Bool) → eqb (barsRefusal r m .number) 0 ≡ nothing →
-        cond nothing (given (barOf r h) (eqb (r - h) 0)) (givenUp (barsRefusal r m) noBar) .touches ≡ false
-    by-refusal true none-refused = flag-falls r h (half-below t (unrefused-barred r m (eqb-true _ 0 none-refused)))
-    by-refusal false some-refused = refl
-
-pub flag-never-set : Always 0 bars-kinds.ps bars-kinds.r bars.Post (λ κs args z w. z .touches ≡ false)
-flag-never-set κs args z w is = rw is (never-set _ _ _)

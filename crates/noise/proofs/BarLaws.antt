@@ -1,11 +1,11 @@
 -- The width and the half of a bar, the refusals of bars, that the half is the greatest number of its test and not above the deviation, and that a
 -- bar's ends are in order.
-use mathlib.Core.Path.{_≡_, refl, sym, ap, ap₂, subst, _∙_}
+use mathlib.Core.Path.{_≡_, refl, sym, ap, subst, _∙_}
 use mathlib.Core.Bool.{Bool, true, false, cond}
-use Prim.Native.Nat.{ℕ, _+_, _-_, _*_, _/_, _%_, _^_, _≤_, _<_}
+use Prim.Native.Nat.{ℕ, _+_, _*_, _/_, _%_, _^_, _≤_, _<_}
 use native.Mathlib.Nat.{div-add-mod, mul-add-div, mul-add, mul-left-comm, mul-le-mul, mul-le-mul-left, mul-le-mul-right, div-le-self, le-div-iff-mul-le, lt-of-le-of-lt}
 use native.Mathlib.Omega.{arith}
-use borrow.Author.Tests.{eq-eqb, ne-eqb, lt-ltb, le-ltb, ltb-false, eqb-true, eqb-false, le-leb, leb-true}
+use borrow.Author.Tests.{eq-eqb, ne-eqb, lt-ltb, le-ltb, ltb-false, eqb-false, le-leb, leb-true}
 use lib.Dec.{T, leb, ltb, eqb, leb→le}
 use lib.Ieee.{le}
 use lib.Ieee.Order.{le-of-values}
@@ -21,14 +21,14 @@ use Rattle.wide.proofs.Roots.{square-root-is-greatest}
 use Rattle.record.specs.Refusals.{none, refused, refusedIf, _then_}
 use Rattle.record.specs.declared.Refusal.{Refusal}
 use Rattle.record.proofs.RefusalLaws.{first-refuses-nothing, rest-refuses-nothing, test-fails}
-use Rattle.plot.specs.Drawn.{plusZero, drawnNumber}
+use Rattle.plot.specs.Drawn.{plusZero}
 use Rattle.noise.specs.Noise.{kappaOf}
 use Rattle.noise.specs.Bars.{barWidth, barHalf, barsRefusal, barOf, noBar, barsAnswer}
 use Rattle.noise.specs.declared.Noise.{Noise}
 use Rattle.noise.specs.declared.Noise.the-variants.{WhitePhase, FlickerPhase, WhiteFrequency, FlickerFrequency, RandomWalkFrequency}
 use Rattle.noise.specs.declared.bars.Bar.{Bar}
 use Rattle.noise.specs.declared.bars.BarsAnswer.{BarsAnswer}
-use Rattle.plot.proofs.DrawnLaws.{drawn-in-order, zero-not-above}
+use Rattle.plot.proofs.DrawnLaws.{drawn-in-order}
 
 -- ---- the refusals
 
@@ -171,21 +171,13 @@ half-below {r} {m} t known =
     let some : 1 ≤ m = omega (arith, known .enough) in
     below-deviation r (kappaOf t) m (kappa-within t) (known .some) some (half-is-greatest r t m (known .most) some)
 
--- ---- the flag
-
-pub touches-nought : (r h : ℕ) → h ≤ r → eqb r h ≡ eqb (r - h) 0
-touches-nought r h within =
-    tests-agree (eqb r h) (eqb (r - h) 0)
-    (λ same. let e = eqb-true r h same in eq-eqb (r - h) 0 (omega arith))
-    (λ nought. let e = eqb-true (r - h) 0 nought in eq-eqb r h (omega arith))
-
 -- ---- the answers
 
-abbrev pub given : Bar → Bool → BarsAnswer
-given bar touches = record { number = 0; place = 0; bar = bar; touches = touches }
+abbrev pub given : Bar → BarsAnswer
+given bar = record { number = 0; place = 0; bar = bar }
 
 abbrev pub givenUp : Refusal → Bar → BarsAnswer
-givenUp refusal bar = record { number = refusal .number; place = refusal .place; bar = bar; touches = false }
+givenUp refusal bar = record { number = refusal .number; place = refusal .place; bar = bar }
 
 module _ (r : ℕ) (t : Noise) (m : ℕ) where
   -- the half from kappa and the width
@@ -199,10 +191,10 @@ module _ (r : ℕ) (t : Noise) (m : ℕ) where
     unfolding barsAnswer
     bars-refused some bar-is = rw (sym refusal-is) (ap (givenUp refusal) bar-is ∙ sym (choice-false _ _ (ne-eqb (refusal .number) 0 some)))
 
-    pub bars-given : refusal .number ≡ 0 → {h : ℕ} → h ≡ barHalf r t m → h ≤ r → bar ≡ barOf r h → given bar (eqb r h) ≡ barsAnswer r t m
+    pub bars-given : refusal .number ≡ 0 → {h : ℕ} → h ≡ barHalf r t m → bar ≡ barOf r h → given bar ≡ barsAnswer r t m
     unfolding barsAnswer
-    bars-given nothing h-is within bar-is =
-        ap₂ given (bar-is ∙ ap (barOf r) h-is) (touches-nought r _ within ∙ ap (λ (h : ℕ). eqb (r - h) 0) h-is)
+    bars-given nothing h-is bar-is =
+        ap given (bar-is ∙ ap (barOf r) h-is)
         ∙ rw (sym refusal-is) (sym (choice-true _ _ (eq-eqb (refusal .number) 0 nothing)))
 
 -- ---- a bar's ends are in order: the lower is not above the deviation, nor that above the upper
@@ -210,13 +202,9 @@ module _ (r : ℕ) (t : Noise) (m : ℕ) where
 abbrev pub InOrder : Bar → Type 0
 InOrder bar = T (le (bar .low) (bar .mid)) × T (le (bar .mid) (bar .high))
 
-pub drawn-ends-in-order : (r h : ℕ) → 1 ≤ r → r ≤ 2 ^ 62 → InOrder (barOf r h)
+drawn-ends-in-order : (r h : ℕ) → InOrder (barOf r h)
 unfolding barOf
-drawn-ends-in-order r h least most = (lower (eqb (r - h) 0), drawn-in-order (omega arith))
-  where
-    lower : (nought : Bool) → T (le (cond nought plusZero (drawnNumber (r - h))) (drawnNumber r))
-    lower true = zero-not-above least (omega arith)
-    lower false = drawn-in-order (omega arith)
+drawn-ends-in-order r h = (drawn-in-order (omega arith), drawn-in-order (omega arith))
 
 zero-not-above-zero : T (le plusZero plusZero)
 zero-not-above-zero = le-of-values plusZero plusZero 0 1 0 1 (omega arith) (omega arith) (refl, refl) (refl, refl) (omega arith)
@@ -224,13 +212,8 @@ zero-not-above-zero = le-of-values plusZero plusZero 0 1 0 1 (omega arith) (omeg
 -- of every answer
 pub ends-in-order : (r : ℕ) (t : Noise) (m : ℕ) → InOrder (barsAnswer r t m .bar)
 unfolding barsAnswer noBar
-ends-in-order r t m = by-refusal (eqb (barsRefusal r m .number) 0) refl
+ends-in-order r t m = by-refusal (eqb (barsRefusal r m .number) 0)
   where
-    h : ℕ
-    h = barHalf r t m
-
-    by-refusal : (nothing : Bool) → eqb (barsRefusal r m .number) 0 ≡ nothing → InOrder (cond nothing (given (barOf r h) (eqb (r - h) 0)) (givenUp (barsRefusal r m) noBar) .bar)
-    by-refusal true none-refused =
-        let known = unrefused-barred r m (eqb-true _ 0 none-refused) in
-        drawn-ends-in-order r h (known .some) (known .most)
-    by-refusal false some-refused = (zero-not-above-zero, zero-not-above-zero)
+    by-refusal : (nothing : Bool) → InOrder (cond nothing (given (barOf r (barHalf r t m))) (givenUp (barsRefusal r m) noBar) .bar)
+    by-refusal true = drawn-ends-in-order r (barHalf r t m)
+    by-refusal false = (zero-not-above-zero, zero-not-above-zero)

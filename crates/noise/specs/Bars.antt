@@ -1,5 +1,5 @@
 -- Error bars.
-use mathlib.Core.Bool.{false, cond}
+use mathlib.Core.Bool.{cond}
 use Prim.Native.Nat.{ℕ, _+_, _-_, _*_, _/_, _^_}
 use lib.Dec.{leb, ltb, eqb}
 use Rattle.laws.specs.Greatest.{greatest}
@@ -23,17 +23,17 @@ barHalf r t M = greatest 64 (λ h. leb (h * h * M) (barWidth r t * barWidth r t)
 unfoldable pub barsRefusal : ℕ → ℕ → Refusal
 barsRefusal r M = refusedIf (eqb r 0) 8 0 then refusedIf (ltb (2 ^ 62) r) 3 0 then refusedIf (ltb M 10) 1 0 then refusedIf (ltb 32767 M) 2 0
 
--- three doubles, drawn from r-h, r and r+h; where r-h is nought, 0.0 is drawn
+-- three doubles, drawn from r-h, r and r+h
 unfoldable pub barOf : ℕ → ℕ → Bar
-barOf r h = record { low = cond (eqb (r - h) 0) plusZero (drawnNumber (r - h)); mid = drawnNumber r; high = drawnNumber (r + h) }
+barOf r h = record { low = drawnNumber (r - h); mid = drawnNumber r; high = drawnNumber (r + h) }
 
 -- noughts
 unfoldable pub noBar : Bar
 noBar = record { low = plusZero; mid = plusZero; high = plusZero }
 
--- a bar row, and a flag set exactly if r-h is nought
+-- a bar row
 unfoldable pub barsAnswer : ℕ → Noise → ℕ → BarsAnswer
 barsAnswer r t M =
     cond (eqb (barsRefusal r M .number) 0)
-    (record { number = 0; place = 0; bar = barOf r (barHalf r t M); touches = eqb (r - barHalf r t M) 0 })
-    (record { number = barsRefusal r M .number; place = barsRefusal r M .place; bar = noBar; touches = false })
+    (record { number = 0; place = 0; bar = barOf r (barHalf r t M) })
+    (record { number = barsRefusal r M .number; place = barsRefusal r M .place; bar = noBar })

@@ -4,11 +4,10 @@ use crate::at_nought;
 use crate::kappa;
 use record::Refusal;
 ghost use mathlib.Core.Path.{_≡_};
-ghost use mathlib.Core.Bool.{cond};
 ghost use Prim.Native.Nat.{_*_, _/_, _≤_, _<_, _^_};
-ghost use lib.Dec.{leb, eqb};
+ghost use lib.Dec.{leb};
 ghost use Rattle.laws.specs.Greatest.{greatest};
-ghost use Rattle.plot.specs.Drawn.{plusZero, drawnNumber};
+ghost use Rattle.plot.specs.Drawn.{drawnNumber};
 ghost use Rattle.noise.specs.Bars.{barsRefusal, barOf, noBar, barsAnswer};
 
 // Three doubles: the lower end, the deviation, the upper end.
@@ -19,13 +18,12 @@ pub struct Bar {
     pub high: f64,
 }
 
-// A bar row, and whether its lower end touches nought.
+// A bar row beside the refusal.
 #[repr(C)]
 pub struct BarsAnswer {
     pub number: u64,
     pub place: u64,
     pub bar: Bar,
-    pub touches: bool,
 }
 
 // The bars of deviation r with noise of a type over M intervals. Refuses 8, 3, 1, then 2.
@@ -38,7 +36,6 @@ pub fn bars(r: u64, noise: Noise, intervals: u64) -> BarsAnswer
             number: refusal.number,
             place: refusal.place,
             bar: no_bar(),
-            touches: false,
         };
     }
     let half = half_of(width_of(r, kappa(noise)), intervals);
@@ -46,7 +43,6 @@ pub fn bars(r: u64, noise: Noise, intervals: u64) -> BarsAnswer
         number: 0,
         place: 0,
         bar: bar_of(r, half),
-        touches: r == half,
     }
 }
 
@@ -86,26 +82,15 @@ fn half_of(width: u64, intervals: u64) -> u64
     wide::root(division.quotient)
 }
 
-// The row drawn from r - h, r and r + h.
+// The row drawn from r - h, r and r + h; h is below r, so that r - h is no wrap and at least 1.
 fn bar_of(r: u64, half: u64) -> Bar
-    requires { ⌜ (1 ≤ r) × (r ≤ 2 ^ 62) × (half ≤ r) ⌝ }
+    requires { ⌜ (r ≤ 2 ^ 62) × (half < r) ⌝ }
     ensures { λ z. ⌜ z ≡ barOf r half ⌝ }
 {
-    let low = low_end(r - half);
+    let low = draw(r - half);
     let mid = draw(r);
     let high = draw(r + half);
     Bar { low, mid, high }
-}
-
-// The lower end, 0.0 where it is nought.
-fn low_end(r: u64) -> f64
-    requires { ⌜ r ≤ 2 ^ 62 ⌝ }
-    ensures { λ x. ⌜ x ≡ cond (eqb r 0) plusZero (drawnNumber r) ⌝ }
-{
-    if r == 0 {
-        return 0.0;
-    }
-    draw(r)
 }
 
 // The double of a number from 1 to 2^63.

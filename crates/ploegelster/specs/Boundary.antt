@@ -1,5 +1,4 @@
 -- What C cannot hand over, told in numbers: a dot is a kind and a double, a noise type is its alpha.
-use mathlib.Core.Bool.{false}
 use Prim.Native.Nat.{ℕ, zero, suc}
 use lib.IntN.{ℤ, pos, negsuc}
 use Rattle.plot.specs.Dots.{dotValue}
@@ -30,7 +29,7 @@ toldNoise a = record { number = a .number; place = a .place; alpha = toldAlpha a
 
 -- an alpha that no type has is refused 3, before all else
 unfoldable pub noSuchType : BarsAnswer
-noSuchType = record { number = 3; place = 0; bar = noBar; touches = false }
+noSuchType = record { number = 3; place = 0; bar = noBar }
 
 -- bars for noise of the type that has this alpha
 unfoldable pub barsByAlpha : ℕ → ℤ → ℕ → BarsAnswer

@@ -107,7 +107,6 @@ fn no_such_type() -> BarsAnswer
             mid: 0.0,
             high: 0.0,
         },
-        touches: false,
     }
 }
 

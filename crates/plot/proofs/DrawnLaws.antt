@@ -79,10 +79,6 @@ module _ {r : ℕ} (least : 1 ≤ r) (most : r ≤ 2 ^ 63) where
   pub one-greatest : {x y : Float} → GreatestDouble r x → GreatestDouble r y → x ≡ y
   one-greatest one other = greatest-is-drawn one ∙ sym (greatest-is-drawn other)
 
-  -- plus zero is not above it
-  pub zero-not-above : T (le plusZero (drawnNumber r))
-  zero-not-above = le-of-values plusZero (drawnNumber r) 0 1 (kept r) (2 ^ 20) (pow-pos 0) (pow-pos 20) (refl, refl) drawn-value (omega arith)
-
 -- the order is kept
 pub drawn-in-order : {r s : ℕ} → r ≤ s → T (le (drawnNumber r) (drawnNumber s))
 unfolding drawnNumber kept dropped

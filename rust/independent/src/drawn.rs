@@ -19,7 +19,7 @@ fn not_above(bits: u64, r: u64) -> bool {
 }
 
 /// The greatest double not above r / 2^20, for r at least 1: doubles that are not negative lie in the order of their bits.
-pub(crate) fn greatest_not_above(r: u64) -> f64 {
+fn greatest_not_above(r: u64) -> f64 {
     f64::from_bits(greatest(INFINITE - 1, |bits| not_above(bits, r)))
 }
 

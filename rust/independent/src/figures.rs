@@ -7,7 +7,7 @@ use super::floats::{float_sums, sample_of};
 use super::fractions::*;
 use super::frequency::{frequency_from_phase, phase_from_frequency};
 use super::meter;
-use super::noise::{bars, half_width, noise_of_record, noise_type, Noise};
+use super::noise::{bars, half_width, noise_of_record, noise_type, Bars, Noise};
 use super::sums::{allan_sum, modified_sum, Sum};
 use super::{Answer, Refusal};
 
@@ -91,9 +91,14 @@ fn noise_and_bars() {
     assert_eq!(noise_type(0, 0), refused(8, 0));
     assert_eq!(bars(1_000_000, Noise::FlickerFrequency, 9), refused(1, 0));
     let row = bars(1_000_000, Noise::FlickerFrequency, 10).unwrap();
-    assert!(row.low < row.mid && row.mid < row.high && !row.touches);
+    assert!(row.low < row.mid && row.mid < row.high);
     assert_eq!(row.mid, 1_000_000.0 / 1_048_576.0);
     assert_eq!(half_width(4, Noise::WhitePhase, 10), 0);
+    // The least deviation: h is 0, and no end is nought.
+    let least = 1.0 / 1_048_576.0;
+    assert_eq!(bars(1, Noise::WhitePhase, 10), Ok(Bars { low: least, mid: least, high: least }));
+    // At M = 1 the search ends at w itself, for the largest deviation too.
+    assert_eq!(half_width(1 << 62, Noise::WhitePhase, 1) as u128, (99 << 62) / 100);
     assert_eq!(noise_of_record(&[0; 6], 1), refused(8, 0));
     assert_eq!(noise_of_record(&[0, 1, 0, 1, 0, 1], 1), Ok(Noise::WhitePhase));
 }

@@ -1,6 +1,6 @@
 //! Noise types and bars.
 
-use super::drawn::greatest_not_above;
+use super::drawn::drawn_number;
 use super::fractions::time_deviation;
 use super::sums::{ask_record, modified_of};
 use super::{ask, greatest, Answer, LARGEST_DEVIATION};
@@ -80,23 +80,24 @@ pub fn noise_of_record(samples: &[i64], m: u64) -> Answer<Noise> {
     noise_type(deviation_at(m)?, deviation_at(2 * m)?)
 }
 
-/// A bar row, and whether r-h is nought.
+/// A bar row: three doubles, drawn from r-h, r and r+h.
 #[derive(Clone, Copy, Debug, PartialEq)]
 pub struct Bars {
     pub low: f64,
     pub mid: f64,
     pub high: f64,
-    pub touches: bool,
 }
 
-/// The greatest h with h^2 M not above w^2, where w is kappa r, floored.
+/// The greatest h with h^2 M not above w^2, where w is kappa r, floored, for M at least 1.
 pub fn half_width(r: u64, noise: Noise, intervals: u64) -> u64 {
     let w = noise.kappa() as u128 * r as u128 / 100;
+    // A product that passes 128 bits is above.
     let not_above = |h: u64| match (h as u128 * h as u128).checked_mul(intervals as u128) {
-        Some(square) => square <= w * w,
+        Some(product) => product <= w * w,
         None => false,
     };
-    greatest(w as u64, not_above)
+    // All of 64 bits, not 0 to w or to r: that h is below r is found here and not assumed.
+    greatest(u64::MAX, not_above)
 }
 
 /// The bars of deviation r over M intervals.
@@ -106,7 +107,8 @@ pub fn bars(r: u64, noise: Noise, intervals: u64) -> Answer<Bars> {
     ask(intervals >= 10, 1)?;
     ask(intervals <= 32_767, 2)?;
     let h = half_width(r, noise, intervals);
-    let touches = r == h;
-    let low = if touches { 0.0 } else { greatest_not_above(r - h) };
-    Ok(Bars { low, mid: greatest_not_above(r), high: greatest_not_above(r + h), touches })
+    // The rules say that r-h is at least 1: were it nought or less, there would be no row to give.
+    let lower = r.checked_sub(h).expect("h is not above r");
+    let drawn = |r: u64| drawn_number(r).expect("an end from 1 to 2^63");
+    Ok(Bars { low: drawn(lower), mid: drawn(r), high: drawn(r + h) })
 }

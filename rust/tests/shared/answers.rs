@@ -73,7 +73,7 @@ impl Words for boundary::NoiseAnswer {
 
 impl Words for boundary::BarsAnswer {
     fn words(&self) -> Vec<u64> {
-        vec![self.number, self.place, self.bar.low.to_bits(), self.bar.mid.to_bits(), self.bar.high.to_bits(), self.touches as u64]
+        vec![self.number, self.place, self.bar.low.to_bits(), self.bar.mid.to_bits(), self.bar.high.to_bits()]
     }
 }
 
@@ -172,9 +172,9 @@ impl Values for Noise {
 }
 
 impl Values for Bars {
-    const LENGTH: usize = 4;
+    const LENGTH: usize = 3;
     fn values(&self) -> Vec<u64> {
-        vec![self.low.to_bits(), self.mid.to_bits(), self.high.to_bits(), self.touches as u64]
+        vec![self.low.to_bits(), self.mid.to_bits(), self.high.to_bits()]
     }
 }
 
@@ -251,9 +251,9 @@ impl Values for ploegelster::Noise {
 }
 
 impl Values for ploegelster::Bars {
-    const LENGTH: usize = 4;
+    const LENGTH: usize = 3;
     fn values(&self) -> Vec<u64> {
-        vec![self.low.to_bits(), self.mid.to_bits(), self.high.to_bits(), self.touches as u64]
+        vec![self.low.to_bits(), self.mid.to_bits(), self.high.to_bits()]
     }
 }
 

@@ -38,12 +38,12 @@ below c = rw (half c) (half-below _ (barred (c .before .before .before)))
 bar-of-requires : tie.Need-bar-of-requires
 bar-of-requires c κs =
     let known = barred (c .before .before .before) in
-    (known .some, known .most, omega (arith, below c))
+    (known .most, below c)
 
 returns-2 : tie.Need-returns-2
 returns-2 c =
     let else = c .before .before .before .before in
-    bars-given _ _ _ (else .before .before .bars-refusal .ensures) (else .if1 .left) (half (c .before)) (omega (arith, below (c .before))) (c .bar-of .ensures)
+    bars-given _ _ _ (else .before .before .bars-refusal .ensures) (else .if1 .left) (half (c .before)) (c .bar-of .ensures)
 
 pub bars-spec : {M : Type 1} → statement M
 bars-spec =

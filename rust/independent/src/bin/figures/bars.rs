@@ -38,6 +38,5 @@ pub fn figures() {
 }
 
 fn row(bars: Bars) -> String {
-    let flag = if bars.touches { "set" } else { "not set" };
-    format!("{} {} {}, flag {flag}", bits(bars.low), bits(bars.mid), bits(bars.high))
+    format!("{} {} {}", bits(bars.low), bits(bars.mid), bits(bars.high))
 }
