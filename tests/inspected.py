@@ -17,6 +17,8 @@ from math import isqrt
 ROOT = os.path.dirname(os.path.dirname(os.path.abspath(__file__)))
 CRATE = os.path.join(ROOT, "crates/inspect")
 DATA = os.path.join(CRATE, "data")
+# As .ci/machine sets it where the machine is no x86-64.
+EMULATOR = os.environ.get("EMULATOR", "").split()
 END = 2**40
 
 
@@ -172,7 +174,7 @@ class Room:
     def start(self, names, **how):
         """The program as a child, and a socket each for its two outputs, on which a write is a packet."""
         ours, theirs = zip(*(socket.socketpair(socket.AF_UNIX, socket.SOCK_SEQPACKET) for _ in range(2)))
-        child = subprocess.Popen([self.path("program"), *names], cwd=self.folder, stdin=subprocess.DEVNULL,
+        child = subprocess.Popen([*EMULATOR, self.path("program"), *names], cwd=self.folder, stdin=subprocess.DEVNULL,
                                  **{"stdout": theirs[0], "stderr": theirs[1], **how})
         for end in theirs:
             end.close()

@@ -2,6 +2,7 @@
 """Compiles and runs README.md's examples, in C with warnings as errors and in Rust, and compares what they write with what README.md says.
 
     tests/readme.py ARCHIVE"""
+import os
 import re
 import subprocess
 import sys
@@ -10,6 +11,8 @@ from pathlib import Path
 
 ROOT = Path(__file__).resolve().parent.parent
 STRICT = ["-std=c11", "-Wall", "-Wextra", "-Wpedantic", "-Werror", "-O2"]
+# As .ci/machine sets them where the machine is no x86-64.
+COMPILER, EMULATOR = os.environ.get("CC", "gcc"), os.environ.get("EMULATOR", "").split()
 
 
 def block(text, language):
@@ -25,8 +28,8 @@ def written(code, archive):
     with tempfile.TemporaryDirectory() as made:
         source, program = Path(made, "example.c"), Path(made, "example")
         source.write_text(code)
-        subprocess.run(["gcc", *STRICT, f"-I{ROOT}/include", source, archive, "-o", program], check=True)
-        return subprocess.run([program], check=True, capture_output=True, text=True).stdout
+        subprocess.run([COMPILER, *STRICT, f"-I{ROOT}/include", source, archive, "-o", program], check=True)
+        return subprocess.run([*EMULATOR, program], check=True, capture_output=True, text=True).stdout
 
 
 def rust_written(code):
