@@ -69,8 +69,8 @@ use Rattle.plot.proofs.DotLaws.{nought-dot, drawn-dot}
 use Rattle.noise.specs.Noise.{alphaOf, kappaOf, noiseOf, noiseRefusal, toldAlpha, typeAnswer, timeDeviation, recordTypeAnswer}
 use Rattle.noise.specs.Bars.{barWidth, barHalf, barsRefusal, barOf, barsAnswer}
 use Rattle.noise.specs.declared.Noise.{Noise}
-use Rattle.noise.specs.declared.bars.BarsAnswer.{BarsAnswer}
 use Rattle.noise.specs.declared.Noise.the-variants.{WhitePhase, FlickerPhase, WhiteFrequency, FlickerFrequency, RandomWalkFrequency}
+use Rattle.noise.specs.declared.bars.BarsAnswer.{BarsAnswer}
 use Rattle.noise.proofs.NoiseLaws.{noiseDemand, noise-given, sound-at-factor, sound-at-double}
 use Rattle.noise.proofs.BarLaws.{unrefused-barred, half-is-greatest, below-deviation, half-below}
 use Rattle.ploegelster.specs.Boundary.{dotKind, toldDot}
@@ -488,7 +488,6 @@ kappa-by-alpha WhiteFrequency = Promises.white-frequency
 kappa-by-alpha FlickerFrequency = Promises.flicker-frequency
 kappa-by-alpha RandomWalkFrequency = Promises.random-walk-frequency
 
--- where no row of the table holds, r is at least 1 and M at least 10, and every kappa is below 100: so h is below r
 kappa-below : {alpha : ℤ} {kappa : ℕ} → Kappa alpha kappa → kappa < 100
 kappa-below Promises.white-phase = omega arith
 kappa-below Promises.flicker-phase = omega arith
@@ -496,6 +495,7 @@ kappa-below Promises.white-frequency = omega arith
 kappa-below Promises.flicker-frequency = omega arith
 kappa-below Promises.random-walk-frequency = omega arith
 
+-- where no row of the table holds, r is at least 1 and M at least 10, and every kappa is below 100: so h is below r
 pub half-below-deviation : (r : ℕ) (alpha : ℤ) (m : ℕ) → NoRow (OfBars r alpha m) → {h : ℕ} → HalfOf r alpha m h → h < r
 half-below-deviation r alpha m no-row half =
     let typed : 2 < natAbs alpha → ⊥ = λ beyond. no-row _ _ (Grounds.no-type beyond) in
