@@ -46,7 +46,7 @@ extern "C" {
 #endif
 
 /** The version: the first number changes where a program that used the one before must be changed or compiled anew. */
-#define PLG_VERSION_MAJOR 3
+#define PLG_VERSION_MAJOR 4
 #define PLG_VERSION_MINOR 0
 #define PLG_VERSION_PATCH 0
 
@@ -214,8 +214,8 @@ plg_count_answer plg_phase_from_frequency(const int64_t *readings, size_t readin
 plg_count_answer plg_frequency_from_phase(const int64_t *samples, size_t samples_length, int64_t *buffer, size_t buffer_length);
 
 /**
- * The drift figure: P = (x_(N-1) - x_(N-2)) - (x_1 - x_0), R = N-2.
- * Refuses 2 (N above 32,768), 1 (N below 3), 3 (at the first sample outside its range).
+ * The drift figure: with h the whole part of (N-1)/2, P = x_(2h) - 2 x_h + x_0, R = h^2. Where N is even, the last sample has no part in it.
+ * Refuses 2 (N above 32,768), 1 (N below 3), 3 (at the first sample outside its range, whether P reads it or not).
  */
 plg_drift_answer plg_drift_figure(const int64_t *samples, size_t samples_length);
 
