@@ -4,21 +4,21 @@
 use mathlib.Core.Path.{_≡_, refl, _∙_}
 use mathlib.Core.Bool.{Bool, cond}
 use mathlib.Core.List.{List, [], _∷_}
-use Prim.Native.Nat.{ℕ, _+_, _-_, _*_, _^_, _≤_, _<_}
+use Prim.Native.Nat.{ℕ, _+_, _-_, _*_, _/_, _%_, _^_, _≤_, _<_}
 use native.Mathlib.Omega.{arith}
 use denote.Ref.{now}
 use lib.Dec.{T}
 use lib.Ieee.{nan}
 use lib.Ieee.Exact.{HasValue}
 use lib.Ieee.Positive.{positive}
-use lib.IntN.{ℤ, pos, negsuc, negℤ, _-ℤ_}
+use lib.IntN.{ℤ, pos, negsuc, negℤ, _+ℤ_, _-ℤ_, _*ℤ_}
 use lib.ListN.{length, getD, take}
 use Rattle.laws.specs.Greatest.{Greatest}
 use Rattle.laws.specs.Lists.{at}
 use Rattle.laws.specs.Sums.{sumℤ}
 use Rattle.laws.specs.Single.{Always}
 use Rattle.wide.specs.Wide.{value}
-use Rattle.sums.specs.Published.{allanSum, modifiedSum}
+use Rattle.sums.specs.Published.{difference, allanSum, modifiedSum}
 use Rattle.sums.specs.Answers.{allanDemand}
 use Rattle.sums.proofs.allan_sum.Reads as allan-sum
 use Rattle.sums.proofs.allan_sum.Kinds as allan-sum-kinds
@@ -304,25 +304,49 @@ bars-low-above-nought κs args z w is answered =
 
 -- ---- drift
 
--- P = (x_(N-1) - x_(N-2)) - (x_1 - x_0) and R = N-2.
+-- P is the published second difference at factor h and place 0, x_(2h) - 2 x_h + x_0, and R = h^2, with h the whole part of (N-1)/2.
 pub drift-published : Always 1 drift-figure-kinds.ps drift-figure-kinds.r drift-figure.Post
-    (λ κs args z w. let xs = now (args .0) in
-    z .number ≡ 0 → (z .p ≡ (at xs (length xs - 1) -ℤ at xs (length xs - 2)) -ℤ (at xs 1 -ℤ at xs 0)) × (z .r ≡ length xs - 2))
+    (λ κs args z w. let xs = now (args .0) in let h = (length xs - 1) / 2 in
+    z .number ≡ 0 → (z .p ≡ difference h xs 0) × (z .p ≡ at xs (2 * h) -ℤ pos 2 *ℤ at xs h +ℤ at xs 0) × (z .r ≡ h * h))
 drift-published κs args z w is answered = rw is (drift-of _ (answered-none (drift-agrees _) (drift-figure-grounds κs args z w is) answered))
 
 -- Removal, floored once, toward minus infinity.
 pub removal-published : Always 2 remove-drift-kinds.ps remove-drift-kinds.r remove-drift.Post
-    (λ κs args z w. let xs = now (args .0) in let left = w .1 .0 in let P = (at xs (length xs - 1) -ℤ at xs (length xs - 2)) -ℤ (at xs 1 -ℤ at xs 0) in
-    z .number ≡ 0 → (z .count ≡ length xs) × ((i : ℕ) → i < length xs → DriftRemoved P (length xs - 2) i (at xs i) (at left i)))
+    (λ κs args z w. let xs = now (args .0) in let left = w .1 .0 in let h = (length xs - 1) / 2 in
+    z .number ≡ 0 → (z .count ≡ length xs) × ((i : ℕ) → i < length xs → DriftRemoved (difference h xs 0) (h * h) i (at xs i) (at left i)))
 removal-published κs args z w is answered =
     let grounds = remove-drift-grounds κs args z w is in
     let enough : length (now (args .0)) < 3 → ⊥ = λ h. grounds .answered answered .1 1 0 (Grounds.few h) in
     rw (is .0, is .1) (drift-removed (now (args .0)) (omega arith) (now (args .1 .0)) (answered-none (removal-agrees _ _) grounds answered))
 
 -- What its table of grounds calls a result, refused or not, is that.
-pub results-published : (xs : List ℤ) → 3 ≤ length xs → let P = (at xs (length xs - 1) -ℤ at xs (length xs - 2)) -ℤ (at xs 1 -ℤ at xs 0) in
-    (i : ℕ) → i < length xs → DriftRemoved P (length xs - 2) i (at xs i) (at (withoutDrift xs) i)
+pub results-published : (xs : List ℤ) → 3 ≤ length xs → let h = (length xs - 1) / 2 in
+    (i : ℕ) → i < length xs → DriftRemoved (difference h xs 0) (h * h) i (at xs i) (at (withoutDrift xs) i)
 results-published = result-of
+
+-- Three samples decide P and R: records as long as each other with the same samples at 0, h and 2h have the same.
+pub three-samples-decide : Always 1 drift-figure-kinds.ps drift-figure-kinds.r drift-figure.Post
+    (λ κs args z w. let xs = now (args .0) in let h = (length xs - 1) / 2 in
+    Always 1 drift-figure-kinds.ps drift-figure-kinds.r drift-figure.Post (λ κs′ args′ z′ w′. let ys = now (args′ .0) in
+    z .number ≡ 0 → z′ .number ≡ 0 → length ys ≡ length xs → at ys 0 ≡ at xs 0 → at ys h ≡ at xs h → at ys (2 * h) ≡ at xs (2 * h) →
+    (z′ .p ≡ z .p) × (z′ .r ≡ z .r)))
+three-samples-decide κs args z w is κs′ args′ z′ w′ is′ answered answered′ as-long first middle last =
+    let one = drift-published κs args z w is answered in
+    let other = drift-published κs′ args′ z′ w′ is′ answered′ in
+    rw (one .1, one .2, other .1, other .2, as-long, first, middle, last) (refl, refl)
+
+-- So the last sample has no part in P and R where N is even.
+pub last-sample-has-no-part : Always 1 drift-figure-kinds.ps drift-figure-kinds.r drift-figure.Post
+    (λ κs args z w. let xs = now (args .0) in
+    Always 1 drift-figure-kinds.ps drift-figure-kinds.r drift-figure.Post (λ κs′ args′ z′ w′. let ys = now (args′ .0) in
+    z .number ≡ 0 → z′ .number ≡ 0 → length xs % 2 ≡ 0 → length ys ≡ length xs → ((k : ℕ) → k + 1 < length xs → at ys k ≡ at xs k) →
+    (z′ .p ≡ z .p) × (z′ .r ≡ z .r)))
+last-sample-has-no-part κs args z w is κs′ args′ z′ w′ is′ answered answered′ even as-long same =
+    let xs = now (args .0) in
+    let grounds = drift-figure-grounds κs args z w is in
+    let enough : length xs < 3 → ⊥ = λ few. grounds .answered answered .1 1 0 (Grounds.few few) in
+    let two : (length xs - 1) / 2 + 1 < length xs = omega arith in
+    three-samples-decide κs args z w is κs′ args′ z′ w′ is′ answered answered′ as-long (same 0 (omega arith)) (same _ two) (same _ (omega arith))
 
 -- ---- the record file
 

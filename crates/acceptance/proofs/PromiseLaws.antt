@@ -3,8 +3,8 @@ use mathlib.Core.Path.{_≡_, refl, sym, ap, _∙_, subst}
 use mathlib.Core.Bool.{Bool, true, false, cond}
 use mathlib.Core.List.{List, [], _∷_}
 use mathlib.Core.Logic.{inl, inr}
-use Prim.Native.Nat.{ℕ, _+_, _-_, _*_, _^_, _≤_, _<_, _∣_}
-use native.Mathlib.Nat.{eq-of-mul-eq-mul-right}
+use Prim.Native.Nat.{ℕ, _+_, _-_, _*_, _/_, _^_, _≤_, _<_, _∣_}
+use native.Mathlib.Nat.{eq-of-mul-eq-mul-right, mul-le-mul}
 use native.Mathlib.Omega.{arith}
 use borrow.Author.Tests.{le-leb, lt-leb, ltb-false}
 use lib.Dec.{T, leb}
@@ -12,7 +12,7 @@ use lib.Ieee.{Float, nan, inf, fin, down}
 use lib.Ieee.Exact.{HasValue}
 use lib.Ieee.Fits.{down-pos}
 use lib.Ieee.Positive.{positive}
-use lib.IntN.{ℤ, pos, negℤ, natAbs, _-ℤ_, _*ℤ_}
+use lib.IntN.{ℤ, pos, negℤ, natAbs, _+ℤ_, _-ℤ_, _*ℤ_}
 use lib.ListN.{length, getD, take}
 use lib.Seq.{take-at}
 use Rattle.laws.specs.Greatest.{Greatest}
@@ -31,10 +31,10 @@ use Rattle.record.proofs.RefusalLaws.{first-refuses-nothing, rest-refuses-nothi
 use Rattle.frequency.specs.Frequency.{phases, phaseRefusal, differences, frequencyRefusal}
 use Rattle.frequency.proofs.FrequencyLaws.{phases-length, phase-is, differences-length, difference-is}
 use Rattle.frequency.proofs.RoundTrip.{phases-of-differences, refused-at-first-offset, unrefused-in-reach}
-use Rattle.drift.specs.Drift.{driftP, driftR, driftRefusal, driftAnswer, floored, withoutDrift, removalRefusal}
-use Rattle.drift.proofs.DriftLaws.{without-drift-length}
+use Rattle.drift.specs.Drift.{driftH, driftP, driftR, driftRefusal, driftAnswer, floored, withoutDrift, removalRefusal}
+use Rattle.drift.proofs.DriftLaws.{written-out, without-drift-length}
 use Rattle.drift.proofs.Floors.{floored-at-most, one-more-above}
-use Rattle.sums.specs.Published.{allanSum, allanCount, allanDenominator, modifiedSum, modifiedCount, timeDenominator}
+use Rattle.sums.specs.Published.{difference, allanSum, allanCount, allanDenominator, modifiedSum, modifiedCount, timeDenominator}
 use Rattle.sums.specs.Answers.{allanDemand, modifiedDemand, partOf, allanSumAnswer, modifiedSumAnswer}
 use Rattle.sums.specs.declared.SumAnswer.{SumAnswer}
 use Rattle.sums.proofs.AnswerLaws.{allan-sum-given, modified-sum-given}
@@ -183,31 +183,39 @@ module _ (xs : List ℤ) (some : 0 < length xs) (few : length xs ≤ 32768) wher
 -- ---- drift
 
 module _ (xs : List ℤ) where
-  pub drift-of : driftRefusal xs ≡ none → (driftAnswer xs .p ≡ (at xs (length xs - 1) -ℤ at xs (length xs - 2)) -ℤ (at xs 1 -ℤ at xs 0)) × (driftAnswer xs .r ≡ length xs - 2)
-  unfolding driftAnswer driftR driftP
-  drift-of nothing = rw nothing (refl, refl)
+  -- h, P and R
+  abbrev pub half : ℕ
+  half = (length xs - 1) / 2
 
-  -- P written out
   abbrev pub slope : ℤ
-  slope = (at xs (length xs - 1) -ℤ at xs (length xs - 2)) -ℤ (at xs 1 -ℤ at xs 0)
+  slope = difference half xs 0
+
+  abbrev pub square-of-half : ℕ
+  square-of-half = half * half
+
+  pub drift-of : driftRefusal xs ≡ none →
+      (driftAnswer xs .p ≡ slope) × (driftAnswer xs .p ≡ at xs (2 * half) -ℤ pos 2 *ℤ at xs half +ℤ at xs 0) × (driftAnswer xs .r ≡ square-of-half)
+  unfolding driftAnswer driftH driftP driftR
+  drift-of nothing = rw nothing (refl, sym (written-out half xs), refl)
 
   module _ (enough : 3 ≤ length xs) where
     -- what is taken off sample i
-    taken-off : (i : ℕ) → i < length xs → at xs i -ℤ at (withoutDrift xs) i ≡ floored (slope *ℤ pos (i * (i - 1))) (2 * (length xs - 2))
-    unfolding withoutDrift driftP driftR
+    taken-off : (i : ℕ) → i < length xs → at xs i -ℤ at (withoutDrift xs) i ≡ floored (slope *ℤ pos (i * (i - 1))) (2 * square-of-half)
+    unfolding withoutDrift driftH driftP driftR
     taken-off i inside =
-        let off = floored (slope *ℤ pos (i * (i - 1))) (2 * (length xs - 2)) in
-        ap (λ (y : ℤ). at xs i -ℤ y) (tabulate-entry (length xs) (λ k. at xs k -ℤ floored (slope *ℤ pos (k * (k - 1))) (2 * (length xs - 2))) (pos 0) i inside)
+        let off = floored (slope *ℤ pos (i * (i - 1))) (2 * square-of-half) in
+        ap (λ (y : ℤ). at xs i -ℤ y) (tabulate-entry (length xs) (λ k. at xs k -ℤ floored (slope *ℤ pos (k * (k - 1))) (2 * square-of-half)) (pos 0) i inside)
         ∙ equation ($ at xs i ⊖ ($ at xs i ⊖ $ off)) ($ off) (omega arith)
 
-    pub result-of : (i : ℕ) → i < length xs → DriftRemoved slope (length xs - 2) i (at xs i) (at (withoutDrift xs) i)
+    pub result-of : (i : ℕ) → i < length xs → DriftRemoved slope square-of-half i (at xs i) (at (withoutDrift xs) i)
     result-of i inside =
-        let some : 0 < 2 * (length xs - 2) = omega arith in
+        let half-some : 1 ≤ half = omega arith in
+        let some : 0 < 2 * square-of-half = omega (arith, mul-le-mul half-some half-some) in
         record { not-above = rw (taken-off i inside) (floored-at-most _ some _); next-above = rw (taken-off i inside) (one-more-above _ some _) }
 
     pub drift-removed : (buffer : List ℤ) → removalRefusal xs (length buffer) ≡ none →
         (countAnswer (removalRefusal xs (length buffer)) (length xs) .count ≡ length xs)
-        × ((i : ℕ) → i < length xs → DriftRemoved slope (length xs - 2) i (at xs i) (at (bufferLeft (removalRefusal xs (length buffer)) (withoutDrift xs) buffer) i))
+        × ((i : ℕ) → i < length xs → DriftRemoved slope square-of-half i (at xs i) (at (bufferLeft (removalRefusal xs (length buffer)) (withoutDrift xs) buffer) i))
     drift-removed buffer nothing = (
       count-of nothing (length xs) (withoutDrift xs) buffer,
       λ i inside. rw (output-entry nothing (length xs) (withoutDrift xs) buffer i (pos 0) (omega (arith, without-drift-length xs))) (result-of i inside),

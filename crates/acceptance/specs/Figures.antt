@@ -79,7 +79,8 @@ pub record Starred : Type 0 where
   -- the lent buffer held byTurns
   pub phased : let ys : List ℤ = pos 3 ∷ negsuc 0 ∷ pos 4 ∷ [] in Fills (phaseRefusal ys 5) 4 (phases ys) byTurns (pos 0 ∷ pos 3 ∷ pos 2 ∷ pos 6 ∷ pos 0 ∷ [])
   pub squares-drift : Drift squares (pos 8) 4 (pos 0 ∷ pos 1 ∷ pos 2 ∷ pos 3 ∷ pos 4 ∷ pos 5 ∷ [])
-  pub falling-drift : Drift (pos 0 ∷ pos 0 ∷ pos 0 ∷ negsuc 0 ∷ []) (negsuc 0) 2 (pos 0 ∷ pos 0 ∷ pos 1 ∷ pos 1 ∷ [])
+  pub last-fallen-drift : let xs : List ℤ = pos 0 ∷ pos 0 ∷ pos 0 ∷ negsuc 0 ∷ [] in Drift xs (pos 0) 1 xs
+  pub falling-drift : Drift (pos 0 ∷ pos 0 ∷ pos 0 ∷ pos 0 ∷ negsuc 0 ∷ []) (negsuc 0) 4 (pos 0 ∷ pos 0 ∷ pos 1 ∷ pos 1 ∷ pos 1 ∷ [])
   -- h = 77,000: 923,000 and 1,000,000 and 1,077,000 over 2^20, each as a whole number times a power of two
   pub bar : barsAnswer 1000000 FlickerFrequency 100
       ≡ record { number = 0; place = 0; bar = record { low = fin false 115375 (negsuc 16); mid = fin false 15625 (negsuc 13); high = fin false 134625 (negsuc 16) } }

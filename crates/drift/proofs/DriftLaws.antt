@@ -1,10 +1,10 @@
--- The cases of the refusals of drift in their order, what is known of a record that is not refused, and each step of the code: the figure P, P
--- taken apart by R, the result at i.
+-- The cases of the refusals of drift in their order, what is known of a record that is not refused, and each step of the code: h, the figures P and
+-- R, P taken apart by R, the result at i.
 use mathlib.Core.Path.{_≡_, refl, sym, ap, _∙_}
 use mathlib.Core.Bool.{Bool, true, false}
 use mathlib.Core.List.{List}
 use Prim.Native.Nat.{ℕ, zero, suc, _+_, _-_, _*_, _/_, _%_, _^_, _≤_, _<_}
-use native.Mathlib.Nat.{mul-le-mul, mul-le-mul-left, mul-le-mul-right, div-add-mod', mod-lt, div-le-self, div-le-of-le-mul, le-mul-of-pos-right}
+use native.Mathlib.Nat.{mul-le-mul, mul-le-mul-left, mul-le-mul-right, div-add-mod', mod-lt, div-le-self, div-le-of-le-mul, le-mul-of-pos-right, zero-add}
 use native.Mathlib.Omega.{arith}
 use borrow.Author.Tests.{lt-ltb, le-ltb, ltb-false, ne-eqb}
 use lib.Dec.{T, ltb}
@@ -21,8 +21,11 @@ use Rattle.laws.proofs.Expressions.{Expression, $_, ±_, #_, _∋_, _⊕_, _⊖
 use Rattle.laws.proofs.Machine.{Fit, machine, read-back, machine-is, lt-taken, lt-left, cast-fits, cast-is}
 use Rattle.record.specs.Refusals.{none, refused, refusedIf, _then_, inRange, rangeRefusal}
 use Rattle.record.specs.declared.Refusal.{Refusal}
-use Rattle.drift.specs.Drift.{driftP, driftR, driftRefusal, driftAnswer, floored, withoutDrift, removalRefusal}
+use Rattle.sums.specs.Published.{difference}
+use Rattle.drift.specs.Drift.{driftH, driftP, driftR, driftRefusal, driftAnswer, floored, withoutDrift, removalRefusal}
 use Rattle.record.proofs.RefusalLaws.{refusal-stands, none-gives-way, first-refuses-nothing, rest-refuses-nothing, test-fails, all-in-range, unrefused-in-range, in-range-bounded}
+use Rattle.sums.proofs.PublishedLaws.{difference-means, difference-within}
+use Rattle.sums.proofs.TotalLaws.{difference-fits}
 use Rattle.drift.proofs.Floors.{floor-taken-apart}
 
 -- ---- 2, 1, 3: the record
@@ -73,45 +76,58 @@ module _ (xs : List ℤ) where
   range-none-drift-none few enough e unrefused =
       unrefused-drift-none (ap (λ (s : Refusal). s .number) (drift-by-range few enough ∙ sym e) ∙ unrefused)
 
--- ---- the figure P
+-- ---- h, P and R
 
--- one difference of samples, and one less another
-abbrev pub differenceOf : List ℤ → ℕ → ℕ → Expression
-differenceOf xs i j = $ at xs i ⊖ $ at xs j
+-- h is the whole part of (N-1)/2: N is 2h+1 or 2h+2
+pub half-way : (xs : List ℤ) → 1 ≤ length xs → (2 * driftH xs + 1 ≤ length xs) × (length xs ≤ 2 * driftH xs + 2)
+unfolding driftH
+half-way xs some = omega arith
 
-abbrev pub differencesOf : List ℤ → ℕ → ℕ → ℕ → ℕ → Expression
-differencesOf xs i j k l = differenceOf xs i j ⊖ differenceOf xs k l
+pub half-is : (xs : List ℤ) → (length xs - 1) / 2 ≡ driftH xs
+unfolding driftH
+half-is xs = refl
 
--- P, as the code works it out
-abbrev figureOf : List ℤ → Expression
-figureOf xs = differencesOf xs (length xs - 1) (length xs - 1 - 1) 1 0
+-- P written out, as the code works it out
+abbrev pub figureOf : ℕ → List ℤ → Expression
+figureOf h xs = $ at xs (2 * h) ⊖ # 2 ⊗ $ at xs h ⊕ $ at xs 0
+
+pub written-out : (h : ℕ) (xs : List ℤ) → ⟦ figureOf h xs ⟧ ≡ difference h xs 0
+written-out h xs = rw (zero-add (2 * h), zero-add h) at (difference-means h xs 0)
 
 module _ (xs : List ℤ) (unrefused : driftRefusal xs ≡ none) where
   abbrev drifting : Drifting xs
   drifting = none-drifting xs unrefused
 
-  pub sample-small : (k : ℕ) → (plus (at xs k) + minus (at xs k) ≤ 2 ^ 40) × (mag (at xs k) ≤ 2 ^ 40)
+  sample-small : (k : ℕ) → (plus (at xs k) + minus (at xs k) ≤ 2 ^ 40) × (mag (at xs k) ≤ 2 ^ 40)
   sample-small k = omega (arith, drifting .bounded k, size-is (at xs k))
 
-  pub difference-fits : (i j : ℕ) → Fit w64 (differenceOf xs i j)
-  difference-fits i j = omega (arith, sample-small i, sample-small j)
+  range-none : rangeRefusal xs ≡ none
+  range-none = sym (drift-by-range xs (drifting .not-too-many) (drifting .enough)) ∙ unrefused
 
-  pub differences-fit : (i j k l : ℕ) → Fit w64 (differencesOf xs i j k l)
-  differences-fit i j k l = omega (arith, sample-small i, sample-small j, sample-small k, sample-small l)
+  pub h-within : (1 ≤ driftH xs) × (driftH xs < 2 ^ 14) × (2 * driftH xs < length xs) × (length xs ≤ 2 * driftH xs + 2)
+  h-within = omega (arith, half-way xs (omega (arith, drifting .enough)), drifting .enough, drifting .not-too-many)
 
-  figure-means : ⟦ figureOf xs ⟧ ≡ driftP xs
+  pub figure-fits : (h : ℕ) → Fit w64 (figureOf h xs)
+  figure-fits h = rw (zero-add (2 * h), zero-add h) at (difference-fits h xs 0 range-none)
+
+  pub figure-is : {h : ℕ} → h ≡ driftH xs → machine w64 (figureOf h xs) ≡ driftP xs
   unfolding driftP
-  figure-means =
-      let place : length xs - 1 - 1 ≡ length xs - 2 = omega arith in
-      ap (λ (k : ℕ). ⟦ differencesOf xs (length xs - 1) k 1 0 ⟧) place
-
-  pub figure-is : machine w64 (figureOf xs) ≡ driftP xs
-  figure-is = machine-is w64 (figureOf xs) (differences-fit _ _ _ _) ∙ figure-means
+  figure-is {h} h-is = machine-is w64 (figureOf h xs) (figure-fits h) ∙ written-out h xs ∙ ap (λ (k : ℕ). difference k xs 0) h-is
 
   pub figure-within : natAbs (driftP xs) ≤ 2 ^ 42
-  figure-within =
-      rw (sym figure-means)
-      (size-within (figureOf xs) (2 ^ 42) (omega (arith, sample-small (length xs - 1), sample-small (length xs - 1 - 1), sample-small 1, sample-small 0)))
+  unfolding driftP
+  figure-within = difference-within (driftH xs) xs (drifting .bounded) 0
+
+  pub figure-r-is : {h : ℕ} → h ≡ driftH xs → h * h ≡ driftR xs
+  unfolding driftR
+  figure-r-is h-is = ap (λ (k : ℕ). k * k) h-is
+
+  pub r-within : (0 < driftR xs) × (driftR xs < 2 ^ 28)
+  unfolding driftR
+  r-within =
+      let some : 1 ≤ driftH xs = omega (arith, h-within) in
+      let few : driftH xs ≤ 2 ^ 14 - 1 = omega (arith, h-within) in
+      omega (arith, mul-le-mul some some, mul-le-mul few few)
 
 -- ---- P taken apart by R, rounded down
 
@@ -140,12 +156,12 @@ module _ (k r : ℕ) (small : k ≤ 2 ^ 42) (positive : 0 < r) (p : ℤ) where
       equation ($ p) (# (k / r) ⊗ # r ⊕ # (k % r)) (omega (arith, div-add-mod' k r))
       ∙ ap (λ (z : ℤ). z *ℤ pos r +ℤ pos (k % r)) (sym (machine-is w64 (signedOf (k / r)) (omega (arith, div-le-self k r))))
 
-module _ (xs : List ℤ) (unrefused : driftRefusal xs ≡ none) {p : ℤ} (p-is : p ≡ driftP xs) where
+module _ (xs : List ℤ) (unrefused : driftRefusal xs ≡ none) {p : ℤ} (p-is : p ≡ driftP xs) {r : ℕ} (r-is : r ≡ driftR xs) where
   p-within : natAbs p ≤ 2 ^ 42
   p-within = rw p-is (figure-within xs unrefused)
 
-  r-some : 0 < length xs - 2
-  r-some = omega (arith, none-drifting xs unrefused .enough)
+  pub r-some : 0 < r
+  r-some = rw r-is (r-within xs unrefused .0)
 
   figure-read : Fit w64 ($ p)
   figure-read = small-fits p (omega (arith, p-within))
@@ -167,14 +183,13 @@ module _ (xs : List ℤ) (unrefused : driftRefusal xs ≡ none) {p : ℤ} (p-is 
     under-is : (plus p ≡ 0) × (minus p ≡ under + 1)
     under-is = omega (arith, p-below, one-part p, cast-is w64 (underOf p) (minus p - 1) under-fits (omega (arith, p-below, one-part p)))
 
-    pub under-within : (under ≤ 2 ^ 42) × (under / (length xs - 2) ≤ 2 ^ 42) × (under % (length xs - 2) < length xs - 2)
-    under-within = omega (arith, under-is, p-within, size-is p, div-le-self under (length xs - 2), mod-lt under r-some)
+    pub under-within : (under ≤ 2 ^ 42) × (under / r ≤ 2 ^ 42) × (under % r < r)
+    under-within = omega (arith, under-is, p-within, size-is p, div-le-self under r, mod-lt under r-some)
 
     pub split-under :
-        let rest = length xs - 2 - 1 - under % (length xs - 2) in
-        (rest < driftR xs) × (driftP xs ≡ machine w64 (belowOf (under / (length xs - 2) + 1)) *ℤ pos (driftR xs) +ℤ pos rest)
-    unfolding driftR
-    split-under = (omega (arith, r-some), sym p-is ∙ split-below under (length xs - 2) (under-within .0) r-some p (under-is .0) (under-is .1))
+        let rest = r - 1 - under % r in
+        (rest < driftR xs) × (driftP xs ≡ machine w64 (belowOf (under / r + 1)) *ℤ pos (driftR xs) +ℤ pos rest)
+    split-under = rw (← r-is) (omega (arith, r-some), sym p-is ∙ split-below under r (under-within .0) r-some p (under-is .0) (under-is .1))
 
   module _ (not-negative : ltZ (machine w64 ($ p)) (pos 0) ≡ false) where
     -- how far the machine says that P lies above nought
@@ -190,14 +205,13 @@ module _ (xs : List ℤ) (unrefused : driftRefusal xs ≡ none) {p : ℤ} (p-is 
     over-is : (minus p ≡ 0) × (plus p ≡ over)
     over-is = omega (arith, p-above, one-part p, cast-is w64 ($ p) (plus p) figure-read (omega (arith, p-above, one-part p)))
 
-    pub over-within : (over ≤ 2 ^ 42) × (over / (length xs - 2) ≤ 2 ^ 42)
-    over-within = omega (arith, over-is, p-within, size-is p, div-le-self over (length xs - 2))
+    pub over-within : (over ≤ 2 ^ 42) × (over / r ≤ 2 ^ 42)
+    over-within = omega (arith, over-is, p-within, size-is p, div-le-self over r)
 
     pub split-over :
-        let rest = over % (length xs - 2) in
-        (rest < driftR xs) × (driftP xs ≡ machine w64 (signedOf (over / (length xs - 2))) *ℤ pos (driftR xs) +ℤ pos rest)
-    unfolding driftR
-    split-over = (mod-lt over r-some, sym p-is ∙ split-above over (length xs - 2) (over-within .0) r-some p (over-is .0) (over-is .1))
+        let rest = over % r in
+        (rest < driftR xs) × (driftP xs ≡ machine w64 (signedOf (over / r)) *ℤ pos (driftR xs) +ℤ pos rest)
+    split-over = rw (← r-is) (mod-lt over r-some, sym p-is ∙ split-above over r (over-within .0) r-some p (over-is .0) (over-is .1))
 
 -- ---- T = i (i-1) / 2
 
@@ -217,10 +231,17 @@ neighbours-below i few =
     let less : i - 1 ≤ 2 ^ 15 = omega arith in
     omega (arith, mul-le-mul few less)
 
-pub triangle-within : (i r t : ℕ) → i ≤ r + 1 → i ≤ 2 ^ 15 → 2 * t ≡ i * (i - 1) → t ≤ 2 ^ 14 * r
-triangle-within i r t below few twice =
-    let less : i - 1 ≤ r = omega arith in
-    omega (arith, mul-le-mul few less)
+-- T is below 2^29, and not above 3 h^2 where i is not above 2h+1
+triangle-below : (i t : ℕ) → i < 2 ^ 15 → 2 * t ≡ i * (i - 1) → t < 2 ^ 29
+triangle-below i t few twice =
+    let most : i ≤ 2 ^ 15 - 1 = omega arith in
+    let less : i - 1 ≤ 2 ^ 15 - 2 = omega arith in
+    omega (arith, mul-le-mul most less)
+
+triangle-within : (i h t : ℕ) → 1 ≤ h → i ≤ 2 * h + 1 → 2 * t ≡ i * (i - 1) → t ≤ 3 * (h * h)
+triangle-within i h t some below twice =
+    let less : i - 1 ≤ 2 * h = omega arith in
+    omega (arith, mul-le-mul below less, mul-le-mul-left h some)
 
 -- ---- the result at i
 
@@ -228,23 +249,23 @@ triangle-within i r t below few twice =
 abbrev pub downOf : ℤ → ℕ → ℕ → ℕ → Expression
 downOf whole rest r t = $ whole ⊗ signedOf t ⊕ signedOf (rest * t / r)
 
-module _ (p whole : ℤ) (rest r t : ℕ) (p-within : natAbs p ≤ 2 ^ 42) (few : r ≤ 2 ^ 15) (below : rest < r) (split : p ≡ whole *ℤ pos r +ℤ pos rest)
-    (t-within : t ≤ 2 ^ 14 * r) where
-  whole-within : natAbs whole * r ≤ 2 ^ 43
+module _ (p whole : ℤ) (rest r t : ℕ) (p-within : natAbs p ≤ 2 ^ 42) (few : r < 2 ^ 28) (below : rest < r) (split : p ≡ whole *ℤ pos r +ℤ pos rest)
+    (t-few : t < 2 ^ 29) (t-within : t ≤ 3 * r) where
+  whole-within : natAbs whole * r ≤ 2 ^ 42 + 2 ^ 28
   whole-within = by-sign whole split
     where
-      by-sign : (z : ℤ) → p ≡ z *ℤ pos r +ℤ pos rest → natAbs z * r ≤ 2 ^ 43
+      by-sign : (z : ℤ) → p ≡ z *ℤ pos r +ℤ pos rest → natAbs z * r ≤ 2 ^ 42 + 2 ^ 28
       by-sign (pos n) e = omega (arith, parts-of-equal e, sound (# n ⊗ # r ⊕ # rest), size-is p)
       by-sign (negsuc n) e = omega (arith, parts-of-equal e, sound (± negsuc n ⊗ # r ⊕ # rest), size-is p)
 
-  whole-times-t : natAbs whole * t ≤ 2 ^ 57
+  pub whole-times-t : natAbs whole * t ≤ 2 ^ 44
   whole-times-t = omega (arith, mul-le-mul-left (natAbs whole) t-within, whole-within)
 
-  pub rest-times-t : rest * t < 2 ^ 45
+  pub rest-times-t : rest * t < 2 ^ 57
   rest-times-t =
-      let rest-few : rest ≤ 2 ^ 15 = omega arith in
-      let t-few : t ≤ 2 ^ 29 = omega arith in
-      omega (arith, mul-le-mul rest-few t-few)
+      let rest-few : rest ≤ 2 ^ 28 - 1 = omega arith in
+      let t-most : t ≤ 2 ^ 29 = omega arith in
+      omega (arith, mul-le-mul rest-few t-most)
 
   rest-share : rest * t / r ≤ t
   rest-share = div-le-of-le-mul r (omega (arith, mul-le-mul-right t below))
@@ -257,39 +278,39 @@ module _ (p whole : ℤ) (rest r t : ℕ) (p-within : natAbs p ≤ 2 ^ 42) (few 
       omega (arith, size-is whole, ap (λ (n : ℕ). n * t) (size-is whole .0), whole-times-t, whole-within, least, rest-share)
 
 -- the result at i, as the code works it out
-abbrev pub resultOf : List ℤ → ℤ → ℕ → ℕ → ℕ → Expression
-resultOf xs whole rest i t = $ at xs i ⊖ downOf whole rest (length xs - 2) t
+abbrev pub resultOf : List ℤ → ℤ → ℕ → ℕ → ℕ → ℕ → Expression
+resultOf xs whole rest i r t = $ at xs i ⊖ downOf whole rest r t
 
 -- what the code asks where it works out the result at i
 abbrev pub ResultAsked : List ℤ → ℤ → ℕ → ℕ → Type 0
 ResultAsked xs whole rest i =
     (driftRefusal xs ≡ none) × (rest < driftR xs) × (driftP xs ≡ whole *ℤ pos (driftR xs) +ℤ pos rest) × (i < length xs)
 
-module _ (xs : List ℤ) (whole : ℤ) (rest i t : ℕ) (asked : ResultAsked xs whole rest i) (twice : 2 * t ≡ i * (i - 1)) where
-  abbrev sized : Drifting xs
-  sized = none-drifting xs (asked .0)
+module _ (xs : List ℤ) (whole : ℤ) (rest i : ℕ) {r : ℕ} (t : ℕ) (asked : ResultAsked xs whole rest i) (r-is : r ≡ driftR xs) (twice : 2 * t ≡ i * (i - 1)) where
+  t-below : t < 2 ^ 29
+  t-below = triangle-below i t (omega (arith, none-drifting xs (asked .0) .not-too-many, asked .3)) twice
 
-  t-few : t ≤ 2 ^ 14 * driftR xs
+  t-share : t ≤ 3 * driftR xs
   unfolding driftR
-  t-few = triangle-within i (length xs - 2) t (omega (arith, sized .enough)) (omega (arith, sized .not-too-many)) twice
+  t-share =
+      let h = h-within xs (asked .0) in
+      triangle-within i (driftH xs) t (h .0) (omega (arith, h, asked .3)) twice
 
-  r-few : driftR xs ≤ 2 ^ 15
-  unfolding driftR
-  r-few = omega (arith, sized .not-too-many)
+  pub product-below : rest * t < 2 ^ 57
+  product-below =
+      rest-times-t (driftP xs) whole rest (driftR xs) t (figure-within xs (asked .0)) (r-within xs (asked .0) .1) (asked .1) (asked .2) t-below t-share
 
-  pub product-below : rest * t < 2 ^ 45
-  product-below = rest-times-t (driftP xs) whole rest (driftR xs) t (figure-within xs (asked .0)) r-few (asked .1) (asked .2) t-few
-
-  pub result-fits : Fit w64 (resultOf xs whole rest i t)
-  unfolding driftR
+  pub result-fits : Fit w64 (resultOf xs whole rest i r t)
   result-fits =
-      lowered-fits (driftP xs) whole rest (driftR xs) t (figure-within xs (asked .0)) r-few (asked .1) (asked .2) t-few (at xs i)
-      (sample-small xs (asked .0) i)
+      rw r-is
+      (lowered-fits (driftP xs) whole rest (driftR xs) t (figure-within xs (asked .0)) (r-within xs (asked .0) .1) (asked .1) (asked .2) t-below t-share (at xs i)
+      (sample-small xs (asked .0) i))
 
-  pub result-is : machine w64 (resultOf xs whole rest i t) ≡ at (withoutDrift xs) i
-  unfolding driftR withoutDrift
+  pub result-is : machine w64 (resultOf xs whole rest i r t) ≡ at (withoutDrift xs) i
+  unfolding withoutDrift
   result-is =
-      machine-is w64 (resultOf xs whole rest i t) result-fits
+      machine-is w64 (resultOf xs whole rest i r t) result-fits
+      ∙ ap (λ (n : ℕ). at xs i -ℤ (whole *ℤ pos t +ℤ pos (rest * t / n))) r-is
       ∙ ap (λ (z : ℤ). at xs i -ℤ z)
       (sym (floor-taken-apart (driftP xs) whole rest (driftR xs) t (asked .1) (asked .2))
       ∙ ap (λ (n : ℕ). floored (driftP xs *ℤ pos n) (2 * driftR xs)) twice)
@@ -325,11 +346,11 @@ module _ (xs : List ℤ) where
   unfolding driftAnswer
   figure-refused {r} e refuses = rw (← e) (sym (choice-false _ _ (ne-eqb (r .number) 0 refuses)))
 
-  pub figure-answered : driftRefusal xs ≡ none → {y : ℤ} → y ≡ driftP xs →
-      record { number = 0; place = 0; p = toZ w64 (ofZ w64 y); r = length xs - 2 } ≡ driftAnswer xs
-  unfolding driftAnswer driftR
-  figure-answered unrefused y-is =
-      rw unrefused (ap (λ (z : ℤ). record { number = 0; place = 0; p = z; r = length xs - 2 }) (read-back y-is (small-fits (driftP xs) (omega (arith, figure-within xs unrefused)))))
+  pub figure-answered : driftRefusal xs ≡ none → {y : ℤ} {r : ℕ} → y ≡ driftP xs → r ≡ driftR xs →
+      record { number = 0; place = 0; p = toZ w64 (ofZ w64 y); r = r } ≡ driftAnswer xs
+  unfolding driftAnswer
+  figure-answered unrefused y-is r-is =
+      rw (unrefused, r-is) (ap (λ (z : ℤ). record { number = 0; place = 0; p = z; r = driftR xs }) (read-back y-is (small-fits (driftP xs) (omega (arith, figure-within xs unrefused)))))
 
 -- ---- 2, 1, 6, 3 at a sample, 3 at a result: removal
 

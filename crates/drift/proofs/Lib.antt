@@ -1,4 +1,3 @@
 pub mod Floors
 pub mod DriftLaws
-pub mod Drifts
 pub mod Unique

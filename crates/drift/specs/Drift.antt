@@ -8,15 +8,20 @@ use lib.ListN.{length}
 use Rattle.laws.specs.Lists.{at, tabulate, firstFailing}
 use Rattle.record.specs.Refusals.{refusedIf, _then_, inRange, rangeRefusal}
 use Rattle.record.specs.declared.Refusal.{Refusal}
+use Rattle.sums.specs.Published.{difference}
 use Rattle.drift.specs.declared.DriftAnswer.{DriftAnswer}
 
--- P = (x_(N-1) - x_(N-2)) - (x_1 - x_0)
-unfoldable pub driftP : List ℤ → ℤ
-driftP xs = (at xs (length xs - 1) -ℤ at xs (length xs - 2)) -ℤ (at xs 1 -ℤ at xs 0)
+-- h is the whole part of (N-1)/2
+unfoldable pub driftH : List ℤ → ℕ
+driftH xs = (length xs - 1) / 2
 
--- R = N-2
+-- P = x_(2h) - 2 x_h + x_0, the second difference at factor h and place 0
+unfoldable pub driftP : List ℤ → ℤ
+driftP xs = difference (driftH xs) xs 0
+
+-- R = h^2
 unfoldable pub driftR : List ℤ → ℕ
-driftR xs = length xs - 2
+driftR xs = driftH xs * driftH xs
 
 -- 2 over 32,768 samples; 1 under 3; 3 at the lowest index
 unfoldable pub driftRefusal : List ℤ → Refusal

@@ -9,7 +9,7 @@ ghost use lib.ListN.{length};
 ghost use Rattle.laws.specs.Lists.{at, written, firstFailing};
 ghost use Rattle.record.specs.Refusals.{none, inRange};
 ghost use Rattle.record.specs.Answers.{countAnswer, bufferLeft};
-ghost use Rattle.drift.specs.Drift.{driftP, driftR, driftRefusal, driftAnswer, withoutDrift, removalRefusal};
+ghost use Rattle.drift.specs.Drift.{driftH, driftP, driftR, driftRefusal, driftAnswer, withoutDrift, removalRefusal};
 
 // The fewest samples that have a drift.
 pub const FEWEST_SAMPLES: usize = 3;
@@ -23,7 +23,7 @@ pub struct DriftAnswer {
     pub r: u64,
 }
 
-// The drift figure: P = (x_(N-1) - x_(N-2)) - (x_1 - x_0) and R = N - 2. Refuses 2, 1 under 3 samples, then 3 at the lowest index.
+// The drift figure: with h the whole part of (N-1)/2, P = x_(2h) - 2 x_h + x_0 and R = h^2. Refuses 2, 1 under 3 samples, then 3 at the lowest index.
 pub fn drift_figure(samples: &[i64]) -> DriftAnswer
     ensures { λ r. ⌜ r ≡ driftAnswer (now (samples .entry)) ⌝ }
 {
@@ -41,7 +41,7 @@ pub fn drift_figure(samples: &[i64]) -> DriftAnswer
         number: 0,
         place: 0,
         p: figure_p(samples),
-        r: samples.len() as u64 - 2,
+        r: figure_r(samples),
     }
 }
 
@@ -104,14 +104,30 @@ fn drift_refusal(samples: &[i64]) -> Refusal
     record::range_refusal(samples)
 }
 
-// P of a record that is not refused.
+// h of a record that is not refused.
+fn half(samples: &[i64]) -> usize
+    requires { ⌜ driftRefusal (now samples) ≡ none ⌝ }
+    ensures { λ r. ⌜ r ≡ driftH (now (samples .entry)) ⌝ }
+{
+    (samples.len() - 1) / 2
+}
+
+// P of such a record.
 fn figure_p(samples: &[i64]) -> i64
     requires { ⌜ driftRefusal (now samples) ≡ none ⌝ }
     ensures { λ r. ⌜ r ≡ driftP (now (samples .entry)) ⌝ }
 {
-    let last = samples.len() - 1;
-    let before = last - 1;
-    samples[last] - samples[before] - (samples[1] - samples[0])
+    let h = half(samples);
+    samples[2 * h] - 2 * samples[h] + samples[0]
+}
+
+// R of such a record.
+fn figure_r(samples: &[i64]) -> u64
+    requires { ⌜ driftRefusal (now samples) ≡ none ⌝ }
+    ensures { λ r. ⌜ r ≡ driftR (now (samples .entry)) ⌝ }
+{
+    let h = half(samples) as u64;
+    h * h
 }
 
 // P taken apart by R, rounded down.
@@ -120,7 +136,7 @@ fn slope_of(samples: &[i64]) -> Slope
     ensures { λ r. ⌜ (r .rest < driftR (now (samples .entry))) × (driftP (now (samples .entry)) ≡ r .whole *ℤ pos (driftR (now (samples .entry))) +ℤ pos (r .rest)) ⌝ }
 {
     let p = figure_p(samples);
-    let r = samples.len() as u64 - 2;
+    let r = figure_r(samples);
     if p < 0 {
         let below = (0 - (p + 1)) as u64;
         return Slope {
@@ -168,7 +184,7 @@ fn result_at(samples: &[i64], slope: Slope, i: usize) -> i64
     requires { ⌜ (driftRefusal (now samples) ≡ none) × (slope .rest < driftR (now samples)) × (driftP (now samples) ≡ slope .whole *ℤ pos (driftR (now samples)) +ℤ pos (slope .rest)) × (i < length (now samples)) ⌝ }
     ensures { λ r. ⌜ r ≡ at (withoutDrift (now (samples .entry))) i ⌝ }
 {
-    let r = samples.len() as u64 - 2;
+    let r = figure_r(samples);
     let t = triangle(i as u64);
     let down = slope.whole * t as i64 + (slope.rest * t / r) as i64;
     samples[i] - down

@@ -59,6 +59,7 @@ const SIZES: [[usize; 3]; 17] = [
 
 pub(crate) fn figures() {
     rows();
+    drifts();
     sizes();
     of_rule(b"ends", records::ENDS);
     of_rule(b"blocks", records::BLOCKS);
@@ -78,20 +79,37 @@ fn rows() {
 
 // Each entry on one record.
 fn row_lines(row: [i64; 4]) {
-    filled(PHASES, row);
-    filled(DIFFERENCES, row);
-    filled(REMOVAL, row);
+    filled(PHASES, &row);
+    filled(DIFFERENCES, &row);
+    drift_lines(&row);
+}
+
+// The lines of records that are shorter or longer: h is above 1 from five samples on.
+fn drifts() {
+    drift_lines(&[0, 1, 4]);
+    drift_lines(&[1099511627776, -1099511627776, 1099511627776]);
+    drift_lines(&[0, 0, 0, 0, -1]);
+    drift_lines(&[0, 0, 0, 0, 1]);
+    drift_lines(&[0, 1, 4, 9, 16, 25]);
+    drift_lines(&[0, 0, 0, 0, -1, 1099511627776]);
+    drift_lines(&[0, 0, 0, 0, 0, 1099511627777]);
+    drift_lines(&[3, -1, 4, -1, 5, -9, 2]);
+}
+
+// One record without its drift, and its drift.
+fn drift_lines(samples: &[i64]) {
+    filled(REMOVAL, samples);
     text(b"drift of");
-    values(&row);
-    drift(&row);
+    values(samples);
+    drift(samples);
 }
 
 // One line: what an entry answers, and the buffer as it is left.
-fn filled(entry: usize, row: [i64; 4]) {
+fn filled(entry: usize, row: &[i64]) {
     let mut buffer = [7i64; 6];
     name(entry);
-    values(&row);
-    count(fill(entry, &row, &mut buffer));
+    values(row);
+    count(fill(entry, row, &mut buffer));
     text(b"; buffer");
     values(&buffer);
     text(b"\n");

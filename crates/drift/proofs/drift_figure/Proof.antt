@@ -1,7 +1,6 @@
 -- `drift::drift_figure` meets its contract.
 use borrow.Author.Needs.{needs}
-use native.Mathlib.Omega.{arith}
-use Rattle.drift.proofs.DriftLaws.{unrefused-drifting, unrefused-drift-none, figure-refused, figure-answered}
+use Rattle.drift.proofs.DriftLaws.{unrefused-drift-none, figure-refused, figure-answered}
 use Rattle.drift.proofs.drift_figure.Statement.{statement}
 use Rattle.drift.proofs.drift_figure.Tie as tie
 
@@ -14,14 +13,15 @@ returns c = figure-refused _ (c .before .drift-refusal .ensures) (c .if1 .taken)
 figure-p-requires : tie.Need-figure-p-requires
 figure-p-requires c κs = unrefused-drift-none _ (rw (c .before .drift-refusal .ensures) at (c .if1 .left))
 
-sub-t8 : tie.Need-sub-t8
-sub-t8 c = let b = c .before in omega (arith, unrefused-drifting _ (rw (b .before .drift-refusal .ensures) at (b .if1 .left)) .enough)
+figure-r-requires : tie.Need-figure-r-requires
+figure-r-requires c κs = let b = c .before in unrefused-drift-none _ (rw (b .before .drift-refusal .ensures) at (b .if1 .left))
 
 returns-2 : tie.Need-returns-2
 returns-2 c =
-    let b = c .before in
-    figure-answered _ (unrefused-drift-none _ (rw (b .before .drift-refusal .ensures) at (b .if1 .left))) (c .figure-p .ensures)
+    let p = c .before in
+    let b = p .before in
+    figure-answered _ (unrefused-drift-none _ (rw (b .before .drift-refusal .ensures) at (b .if1 .left))) (p .figure-p .ensures) (c .figure-r .ensures)
 
 pub drift-figure-spec : {M : Type 1} → statement M
 drift-figure-spec =
-    tie.close (tie.spec drift-refusal-requires returns figure-p-requires sub-t8 returns-2)
+    tie.close (tie.spec drift-refusal-requires returns figure-p-requires figure-r-requires returns-2)

@@ -3,49 +3,56 @@ use borrow.Author.Needs.{needs}
 use native.Mathlib.Omega.{arith}
 use mir.Syntax.{w64}
 use Rattle.laws.proofs.Machine.{operation-fits, left-of, right-of}
-use Rattle.drift.proofs.DriftLaws.{none-drifting, resultOf, product-below, result-fits, result-is}
+use Rattle.drift.proofs.DriftLaws.{none-drifting, r-within, resultOf, product-below, result-fits, result-is}
 use Rattle.drift.proofs.result_at.Statement.{statement}
 use Rattle.drift.proofs.result_at.Tie as tie
 
-sub-r : tie.Need-sub-r
-sub-r c = omega (arith, none-drifting _ (c .pre .0) .enough)
+figure-r-requires : tie.Need-figure-r-requires
+figure-r-requires c κs = search needs
 
 triangle-requires : tie.Need-triangle-requires
-triangle-requires c κs = omega (arith, none-drifting _ (c .pre .0) .not-too-many)
+triangle-requires c κs = omega (arith, none-drifting _ (c .before .pre .0) .not-too-many)
 
 cast-down : tie.Need-cast-down
 cast-down c =
-    let a = c .before .args in
-    result-fits (a .samples .now) (a .slope .whole) _ _ _ (c .before .pre) (c .triangle .ensures) .1 .0 .1 .1
+    let f = c .before in
+    let a = f .before .args in
+    result-fits (a .samples .now) (a .slope .whole) _ _ _ (f .before .pre) (f .figure-r .ensures) (c .triangle .ensures) .1 .0 .1 .1
 
 mul-down : tie.Need-mul-down
 mul-down c =
     let g = c .before .before in
-    let a = g .before .args in
-    operation-fits w64 (left-of (right-of (resultOf (a .samples .now) (a .slope .whole) (a .slope .rest) (a .i) (g .triangle .result))))
-    (result-fits (a .samples .now) (a .slope .whole) _ _ _ (g .before .pre) (g .triangle .ensures) .1 .0)
+    let f = g .before in
+    let a = f .before .args in
+    operation-fits w64 (left-of (right-of (resultOf (a .samples .now) (a .slope .whole) (a .slope .rest) (a .i) (f .figure-r .result) (g .triangle .result))))
+    (result-fits (a .samples .now) (a .slope .whole) _ _ _ (f .before .pre) (f .figure-r .ensures) (g .triangle .ensures) .1 .0)
 
 mul-down-2 : tie.Need-mul-down-2
 mul-down-2 c =
     let g = c .before .before .before in
-    let a = g .before .args in
-    omega (arith, product-below (a .samples .now) (a .slope .whole) _ _ _ (g .before .pre) (g .triangle .ensures))
+    let f = g .before in
+    let a = f .before .args in
+    omega (arith, product-below (a .samples .now) (a .slope .whole) _ _ _ (f .before .pre) (f .figure-r .ensures) (g .triangle .ensures))
 
 div-down : tie.Need-div-down
-div-down c = omega (arith, none-drifting _ (c .before .before .before .before .pre .0) .enough)
+div-down c =
+    let f = c .before .before .before .before in
+    omega (arith, f .figure-r .ensures, r-within _ (f .before .pre .0))
 
 cast-down-2 : tie.Need-cast-down-2
 cast-down-2 c =
     let g = c .before .before .before in
-    let a = g .before .args in
-    result-fits (a .samples .now) (a .slope .whole) _ _ _ (g .before .pre) (g .triangle .ensures) .1 .1 .1
+    let f = g .before in
+    let a = f .before .args in
+    result-fits (a .samples .now) (a .slope .whole) _ _ _ (f .before .pre) (f .figure-r .ensures) (g .triangle .ensures) .1 .1 .1
 
 add-down : tie.Need-add-down
 add-down c =
     let g = c .before .before .before in
-    let a = g .before .args in
-    operation-fits w64 (right-of (resultOf (a .samples .now) (a .slope .whole) (a .slope .rest) (a .i) (g .triangle .result)))
-    (result-fits (a .samples .now) (a .slope .whole) _ _ _ (g .before .pre) (g .triangle .ensures) .1)
+    let f = g .before in
+    let a = f .before .args in
+    operation-fits w64 (right-of (resultOf (a .samples .now) (a .slope .whole) (a .slope .rest) (a .i) (f .figure-r .result) (g .triangle .result)))
+    (result-fits (a .samples .now) (a .slope .whole) _ _ _ (f .before .pre) (f .figure-r .ensures) (g .triangle .ensures) .1)
 
 mul-result : tie.Need-mul-result
 mul-result c = search needs
@@ -56,21 +63,23 @@ shared-slice-copy-out-result c = search needs
 sub-result : tie.Need-sub-result
 sub-result c =
     let g = c .before .before .before .before in
-    let a = g .before .args in
-    operation-fits w64 (resultOf (a .samples .now) (a .slope .whole) (a .slope .rest) (a .i) (g .triangle .result))
-    (result-fits (a .samples .now) (a .slope .whole) _ _ _ (g .before .pre) (g .triangle .ensures))
+    let f = g .before in
+    let a = f .before .args in
+    operation-fits w64 (resultOf (a .samples .now) (a .slope .whole) (a .slope .rest) (a .i) (f .figure-r .result) (g .triangle .result))
+    (result-fits (a .samples .now) (a .slope .whole) _ _ _ (f .before .pre) (f .figure-r .ensures) (g .triangle .ensures))
 
 returns : tie.Need-returns
 returns c =
     let g = c .before .before .before .before in
-    let a = g .before .args in
-    result-is (a .samples .now) (a .slope .whole) _ _ _ (g .before .pre) (g .triangle .ensures)
+    let f = g .before in
+    let a = f .before .args in
+    result-is (a .samples .now) (a .slope .whole) _ _ _ (f .before .pre) (f .figure-r .ensures) (g .triangle .ensures)
 
 pub result-at-spec : {M : Type 1} → statement M
 result-at-spec =
     tie.close
     (tie.spec
-    sub-r
+    figure-r-requires
     triangle-requires
     cast-down
     mul-down
