@@ -93,7 +93,7 @@ use Rattle.acceptance.proofs.TypeGrounds.{type-agrees, bars-agree, alph
 use Rattle.acceptance.proofs.RecordTypeGrounds.{record-type-agrees}
 use Rattle.acceptance.proofs.FileGrounds.{writing-agrees, reading-agrees}
 use Rattle.acceptance.proofs.Grounds.{allan-sum-grounds, modified-sum-grounds, allan-fraction-grounds, time-fraction-grounds, allan-deviation-grounds, time-deviation-grounds, phase-from-frequency-grounds, frequency-from-phase-grounds, drift-figure-grounds, remove-drift-grounds, float-sums-grounds, drawn-number-grounds, allan-dot-grounds, time-dot-grounds, noise-type-grounds, noise-of-record-grounds, plg-noise-type-grounds, plg-noise-of-record-grounds, bars-grounds, plg-bars-grounds, read-file-grounds, write-file-grounds}
-use Rattle.acceptance.proofs.PromiseLaws.{allan-sum-of, modified-sum-of, phases-of, differences-of, differences-left, back-and-forth, drift-of, result-of, drift-removed, float-sums-of, float-samples-of, reads-files-alone, reads-every-file, count-of, output-left, file-left, one-value-unrefused, written-proper, reads-back, drawn-of, dot-told, allan-dot-of, time-dot-of, allan-fraction-of, time-fraction-of, allan-deviation-of, time-deviation-of, allan-deviation-of-record, time-deviation-of-record, type-of, noise-of, bars-of, half-below-deviation, low-above-nought}
+use Rattle.acceptance.proofs.PromiseLaws.{allan-sum-of, modified-sum-of, phases-of, differences-of, differences-left, back-and-forth, drift-of, divisor-some, result-of, drift-removed, one-result, same-slope, float-sums-of, float-samples-of, reads-files-alone, reads-every-file, count-of, output-left, file-left, one-value-unrefused, written-proper, reads-back, drawn-of, dot-told, allan-dot-of, time-dot-of, allan-fraction-of, time-fraction-of, allan-deviation-of, time-deviation-of, allan-deviation-of-record, time-deviation-of-record, type-of, noise-of, bars-of, half-below-deviation, low-above-nought}
 use Rattle.acceptance.proofs.Figures.{starred-figures}
 
 -- ---- the published sums: x the record, N its length, m the factor
@@ -335,18 +335,32 @@ three-samples-decide κs args z w is κs′ args′ z′ w′ is′ answered ans
     let other = drift-published κs′ args′ z′ w′ is′ answered′ in
     rw (one .1, one .2, other .1, other .2, as-long, first, middle, last) (refl, refl)
 
--- So the last sample has no part in P and R where N is even.
+-- So where N is even the last sample has no part in P and R.
 pub last-sample-has-no-part : Always 1 drift-figure-kinds.ps drift-figure-kinds.r drift-figure.Post
     (λ κs args z w. let xs = now (args .0) in
     Always 1 drift-figure-kinds.ps drift-figure-kinds.r drift-figure.Post (λ κs′ args′ z′ w′. let ys = now (args′ .0) in
     z .number ≡ 0 → z′ .number ≡ 0 → length xs % 2 ≡ 0 → length ys ≡ length xs → ((k : ℕ) → k + 1 < length xs → at ys k ≡ at xs k) →
     (z′ .p ≡ z .p) × (z′ .r ≡ z .r)))
 last-sample-has-no-part κs args z w is κs′ args′ z′ w′ is′ answered answered′ even as-long same =
-    let xs = now (args .0) in
     let grounds = drift-figure-grounds κs args z w is in
+    let enough : length (now (args .0)) < 3 → ⊥ = λ few. grounds .answered answered .1 1 0 (Grounds.few few) in
+    let one = drift-published κs args z w is answered in
+    let other = drift-published κs′ args′ z′ w′ is′ answered′ in
+    rw (one .0, one .2, other .0, other .2, as-long) (same-slope (now (args .0)) (now (args′ .0)) (omega arith) even same, refl)
+
+-- Nor in any result but its own.
+pub last-sample-changes-its-own-result : Always 2 remove-drift-kinds.ps remove-drift-kinds.r remove-drift.Post
+    (λ κs args z w. let xs = now (args .0) in let left = w .1 .0 in
+    Always 2 remove-drift-kinds.ps remove-drift-kinds.r remove-drift.Post (λ κs′ args′ z′ w′. let ys = now (args′ .0) in let left′ = w′ .1 .0 in
+    z .number ≡ 0 → z′ .number ≡ 0 → length xs % 2 ≡ 0 → length ys ≡ length xs → ((k : ℕ) → k + 1 < length xs → at ys k ≡ at xs k) →
+    (k : ℕ) → k + 1 < length xs → at left′ k ≡ at left k))
+last-sample-changes-its-own-result κs args z w is κs′ args′ z′ w′ is′ answered answered′ even as-long same k inside =
+    let xs = now (args .0) in
+    let grounds = remove-drift-grounds κs args z w is in
     let enough : length xs < 3 → ⊥ = λ few. grounds .answered answered .1 1 0 (Grounds.few few) in
-    let two : (length xs - 1) / 2 + 1 < length xs = omega arith in
-    three-samples-decide κs args z w is κs′ args′ z′ w′ is′ answered answered′ as-long (same 0 (omega arith)) (same _ two) (same _ (omega arith))
+    let one = removal-published κs args z w is answered .1 k (omega arith) in
+    let other = removal-published κs′ args′ z′ w′ is′ answered′ .1 k (omega (arith, as-long)) in
+    one-result (divisor-some xs (omega arith)) one (rw (as-long, same-slope xs (now (args′ .0)) (omega arith) even same, same k inside) at other)
 
 -- ---- the record file
 

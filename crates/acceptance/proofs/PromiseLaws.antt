@@ -3,7 +3,7 @@ use mathlib.Core.Path.{_≡_, refl, sym, ap, _∙_, subst}
 use mathlib.Core.Bool.{Bool, true, false, cond}
 use mathlib.Core.List.{List, [], _∷_}
 use mathlib.Core.Logic.{inl, inr}
-use Prim.Native.Nat.{ℕ, _+_, _-_, _*_, _/_, _^_, _≤_, _<_, _∣_}
+use Prim.Native.Nat.{ℕ, _+_, _-_, _*_, _/_, _%_, _^_, _≤_, _<_, _∣_}
 use native.Mathlib.Nat.{eq-of-mul-eq-mul-right, mul-le-mul}
 use native.Mathlib.Omega.{arith}
 use borrow.Author.Tests.{le-leb, lt-leb, ltb-false}
@@ -33,7 +33,7 @@ use Rattle.frequency.proofs.FrequencyLaws.{phases-length, phase-is, differences
 use Rattle.frequency.proofs.RoundTrip.{phases-of-differences, refused-at-first-offset, unrefused-in-reach}
 use Rattle.drift.specs.Drift.{driftH, driftP, driftR, driftRefusal, driftAnswer, floored, withoutDrift, removalRefusal}
 use Rattle.drift.proofs.DriftLaws.{written-out, without-drift-length}
-use Rattle.drift.proofs.Floors.{floored-at-most, one-more-above}
+use Rattle.drift.proofs.Floors.{floored-at-most, one-more-above, floored-only}
 use Rattle.sums.specs.Published.{difference, allanSum, allanCount, allanDenominator, modifiedSum, modifiedCount, timeDenominator}
 use Rattle.sums.specs.Answers.{allanDemand, modifiedDemand, partOf, allanSumAnswer, modifiedSumAnswer}
 use Rattle.sums.specs.declared.SumAnswer.{SumAnswer}
@@ -207,11 +207,16 @@ module _ (xs : List ℤ) where
         ap (λ (y : ℤ). at xs i -ℤ y) (tabulate-entry (length xs) (λ k. at xs k -ℤ floored (slope *ℤ pos (k * (k - 1))) (2 * square-of-half)) (pos 0) i inside)
         ∙ equation ($ at xs i ⊖ ($ at xs i ⊖ $ off)) ($ off) (omega arith)
 
+    pub divisor-some : 0 < 2 * square-of-half
+    divisor-some =
+        let some : 1 ≤ half = omega arith in
+        omega (arith, mul-le-mul some some)
+
     pub result-of : (i : ℕ) → i < length xs → DriftRemoved slope square-of-half i (at xs i) (at (withoutDrift xs) i)
-    result-of i inside =
-        let half-some : 1 ≤ half = omega arith in
-        let some : 0 < 2 * square-of-half = omega (arith, mul-le-mul half-some half-some) in
-        record { not-above = rw (taken-off i inside) (floored-at-most _ some _); next-above = rw (taken-off i inside) (one-more-above _ some _) }
+    result-of i inside = record {
+      not-above = rw (taken-off i inside) (floored-at-most _ divisor-some _);
+      next-above = rw (taken-off i inside) (one-more-above _ divisor-some _);
+    }
 
     pub drift-removed : (buffer : List ℤ) → removalRefusal xs (length buffer) ≡ none →
         (countAnswer (removalRefusal xs (length buffer)) (length xs) .count ≡ length xs)
@@ -220,6 +225,20 @@ module _ (xs : List ℤ) where
       count-of nothing (length xs) (withoutDrift xs) buffer,
       λ i inside. rw (output-entry nothing (length xs) (withoutDrift xs) buffer i (pos 0) (omega (arith, without-drift-length xs))) (result-of i inside),
     )
+
+-- a sample without a drift is one number
+pub one-result : {P : ℤ} {R i : ℕ} {x y y′ : ℤ} → 0 < 2 * R → DriftRemoved P R i x y → DriftRemoved P R i x y′ → y′ ≡ y
+one-result {x = x} {y = y} {y′ = y′} some one other =
+    let off : x -ℤ y′ ≡ x -ℤ y = sym (floored-only _ some _ _ (other .not-above) (other .next-above)) ∙ floored-only _ some _ _ (one .not-above) (one .next-above) in
+    equation ($ y′) ($ x ⊖ ($ x ⊖ $ y′)) (omega arith) ∙ ap (λ (q : ℤ). x -ℤ q) off ∙ equation ($ x ⊖ ($ x ⊖ $ y)) ($ y) (omega arith)
+
+-- where N is even, records that are the same but for the last sample have one P
+pub same-slope : (xs ys : List ℤ) → 3 ≤ length xs → length xs % 2 ≡ 0 → ((k : ℕ) → k + 1 < length xs → at ys k ≡ at xs k) →
+    difference (half xs) ys 0 ≡ slope xs
+same-slope xs ys enough even same =
+    let middle : half xs + 1 < length xs = omega arith in
+    let last : 2 * half xs + 1 < length xs = omega arith in
+    rw (← written-out (half xs) ys, ← written-out (half xs) xs, same 0 (omega arith), same _ middle, same _ last) refl
 
 -- ---- float readings
 

@@ -17,7 +17,7 @@ use Rattle.laws.specs.Lists.{at, firstFailing}
 use Rattle.laws.proofs.Tests.{choice-false}
 use Rattle.laws.proofs.ListLaws.{tabulate-length, tabulate-entry, none-fails, writtenSoFar, written-so-far-length}
 use Rattle.laws.proofs.Parts.{plus, minus, one-part, size-is, small-fits, parts-of-equal}
-use Rattle.laws.proofs.Expressions.{Expression, $_, ±_, #_, _∋_, _⊕_, _⊖_, _⊗_, _⊑_, _⊏_, ⟦_⟧, sound, equation, size-within}
+use Rattle.laws.proofs.Expressions.{Expression, $_, ±_, #_, _∋_, _⊕_, _⊖_, _⊗_, _⊑_, _⊏_, ⟦_⟧, sound, equation}
 use Rattle.laws.proofs.Machine.{Fit, machine, read-back, machine-is, lt-taken, lt-left, cast-fits, cast-is}
 use Rattle.record.specs.Refusals.{none, refused, refusedIf, _then_, inRange, rangeRefusal}
 use Rattle.record.specs.declared.Refusal.{Refusal}
@@ -87,6 +87,10 @@ pub half-is : (xs : List ℤ) → (length xs - 1) / 2 ≡ driftH xs
 unfolding driftH
 half-is xs = refl
 
+pub square-is : (xs : List ℤ) {h : ℕ} → h ≡ driftH xs → h * h ≡ driftR xs
+unfolding driftR
+square-is xs h-is = ap (λ (k : ℕ). k * k) h-is
+
 -- P written out, as the code works it out
 abbrev pub figureOf : ℕ → List ℤ → Expression
 figureOf h xs = $ at xs (2 * h) ⊖ # 2 ⊗ $ at xs h ⊕ $ at xs 0
@@ -117,10 +121,6 @@ module _ (xs : List ℤ) (unrefused : driftRefusal xs ≡ none) where
   pub figure-within : natAbs (driftP xs) ≤ 2 ^ 42
   unfolding driftP
   figure-within = difference-within (driftH xs) xs (drifting .bounded) 0
-
-  pub figure-r-is : {h : ℕ} → h ≡ driftH xs → h * h ≡ driftR xs
-  unfolding driftR
-  figure-r-is h-is = ap (λ (k : ℕ). k * k) h-is
 
   pub r-within : (0 < driftR xs) × (driftR xs < 2 ^ 28)
   unfolding driftR
@@ -226,18 +226,12 @@ triangle-is (suc n) =
     let before : suc n - 1 ≡ n = omega arith in
     rw before (omega (arith, neighbours-even n))
 
-pub neighbours-below : (i : ℕ) → i ≤ 2 ^ 15 → i * (i - 1) ≤ 2 ^ 30
+pub neighbours-below : (i : ℕ) → i ≤ 2 ^ 15 → i * (i - 1) < 2 ^ 30
 neighbours-below i few =
-    let less : i - 1 ≤ 2 ^ 15 = omega arith in
+    let less : i - 1 ≤ 2 ^ 15 - 1 = omega arith in
     omega (arith, mul-le-mul few less)
 
--- T is below 2^29, and not above 3 h^2 where i is not above 2h+1
-triangle-below : (i t : ℕ) → i < 2 ^ 15 → 2 * t ≡ i * (i - 1) → t < 2 ^ 29
-triangle-below i t few twice =
-    let most : i ≤ 2 ^ 15 - 1 = omega arith in
-    let less : i - 1 ≤ 2 ^ 15 - 2 = omega arith in
-    omega (arith, mul-le-mul most less)
-
+-- where i is not above 2h+1, T is not above 3 h^2
 triangle-within : (i h t : ℕ) → 1 ≤ h → i ≤ 2 * h + 1 → 2 * t ≡ i * (i - 1) → t ≤ 3 * (h * h)
 triangle-within i h t some below twice =
     let less : i - 1 ≤ 2 * h = omega arith in
@@ -288,7 +282,7 @@ ResultAsked xs whole rest i =
 
 module _ (xs : List ℤ) (whole : ℤ) (rest i : ℕ) {r : ℕ} (t : ℕ) (asked : ResultAsked xs whole rest i) (r-is : r ≡ driftR xs) (twice : 2 * t ≡ i * (i - 1)) where
   t-below : t < 2 ^ 29
-  t-below = triangle-below i t (omega (arith, none-drifting xs (asked .0) .not-too-many, asked .3)) twice
+  t-below = omega (arith, neighbours-below i (omega (arith, none-drifting xs (asked .0) .not-too-many, asked .3)), twice)
 
   t-share : t ≤ 3 * driftR xs
   unfolding driftR

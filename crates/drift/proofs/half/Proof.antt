@@ -1,5 +1,4 @@
 -- `drift::half` meets its contract: there is a sample to leave out.
-use borrow.Author.Needs.{needs}
 use native.Mathlib.Omega.{arith}
 use Rattle.drift.proofs.DriftLaws.{none-drifting, half-is}
 use Rattle.drift.proofs.half.Statement.{statement}
