@@ -14,21 +14,21 @@ fn ask_size(samples: &[i64]) -> Answer<()> {
     ask(samples.len() >= 3, 1)
 }
 
-/// P and R of a sound record.
+/// P and R of a sound record. Three samples decide P: the first, one in the middle, and the last or, where N is even, the last but one.
 fn figure(samples: &[i64]) -> Drift {
     let x = |i: usize| samples[i] as i128;
-    let last = samples.len() - 1;
-    Drift { p: (x(last) - x(last - 1)) - (x(1) - x(0)), r: last as u64 - 1 }
+    let h = (samples.len() - 1) / 2;
+    Drift { p: x(2 * h) - 2 * x(h) + x(0), r: h as u64 * h as u64 }
 }
 
-/// P = (x_(N-1) - x_(N-2)) - (x_1 - x_0) and R = N-2.
+/// With h the whole part of (N-1)/2, P = x_(2h) - 2 x_h + x_0 and R = h^2. All N samples are tested, those too that P does not read.
 pub fn drift_figure(samples: &[i64]) -> Answer<Drift> {
     ask_size(samples)?;
     ask_samples(samples)?;
     Ok(figure(samples))
 }
 
-/// x_i - floor(P i (i-1) / (2R)); gives how many were written.
+/// x_i - floor(P i (i-1) / (2R)), floored once, toward minus infinity; gives how many were written. All N samples are tested first, then the results.
 pub fn remove_drift(samples: &[i64], buffer: &mut [i64]) -> Answer<u64> {
     ask_size(samples)?;
     ask(buffer.len() >= samples.len(), 6)?;

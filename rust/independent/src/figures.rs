@@ -75,11 +75,15 @@ fn readings_and_drift() {
     assert_eq!(remove_drift(&x, &mut buffer), Ok(6));
     assert_eq!(buffer, [0, 1, 2, 3, 4, 5]);
     let x = [0, 0, 0, -1];
-    assert_eq!(drift_figure(&x), Ok(Drift { p: -1, r: 2 }));
+    assert_eq!(drift_figure(&x), Ok(Drift { p: 0, r: 1 }));
     assert_eq!(remove_drift(&x, &mut buffer), Ok(4));
-    assert_eq!(buffer, [0, 0, 1, 1, 4, 5]);
+    assert_eq!(buffer, [0, 0, 0, -1, 4, 5]);
+    let x = [0, 0, 0, 0, -1];
+    assert_eq!(drift_figure(&x), Ok(Drift { p: -1, r: 4 }));
+    assert_eq!(remove_drift(&x, &mut buffer), Ok(5));
+    assert_eq!(buffer, [0, 0, 1, 1, 1, 5]);
     assert_eq!(remove_drift(&[0, END, -END, END + 1], &mut buffer), refused(3, 3));
-    assert_eq!(buffer, [0, 0, 1, 1, 4, 5]);
+    assert_eq!(buffer, [0, 0, 1, 1, 1, 5]);
 }
 
 #[test]
