@@ -37,6 +37,18 @@ const ROWS: [[i64; 4]; 19] = [
     [-END - 1, 0, 0, END + 1],
 ];
 
+/// Records for the drift alone: N odd and even, and once too large for the buffer.
+const DRIFTS: [&[i64]; 8] = [
+    &[0, 1, 4],
+    &[END, -END, END],
+    &[0, 0, 0, 0, -1],
+    &[0, 0, 0, 0, 1],
+    &[0, 1, 4, 9, 16, 25],
+    &[0, 0, 0, 0, -1, END],
+    &[0, 0, 0, 0, 0, END + 1],
+    &[3, -1, 4, -1, 5, -9, 2],
+];
+
 /// An entry, how many noughts it is lent, and the length of its buffer.
 const SIZES: [(Entry, usize, usize); 17] = [
     (PHASES, 0, 0),
@@ -61,12 +73,15 @@ const SIZES: [(Entry, usize, usize); 17] = [
 pub fn figures() {
     for row in ROWS {
         let words = values(&row);
-        for (name, fill) in [PHASES, DIFFERENCES, REMOVAL] {
-            let mut buffer = [7; 6];
-            let said = written(fill(&row, &mut buffer));
-            println!("{name} {words}: {said}; buffer {}", values(&buffer));
+        for entry in [PHASES, DIFFERENCES, REMOVAL] {
+            short(entry, &words, &row);
         }
         drift(&words, &row);
+    }
+    for samples in DRIFTS {
+        let words = values(samples);
+        short(REMOVAL, &words, samples);
+        drift(&words, samples);
     }
     for ((name, fill), length, room) in SIZES {
         println!("{name} {length} noughts, buffer of {room}: {}", written(fill(&vec![0; length], &mut vec![7; room])));
@@ -84,6 +99,13 @@ pub fn figures() {
 /// P and R of a record, or the refusal.
 fn drift(words: &str, samples: &[i64]) {
     println!("drift of {words}: {}", answer(drift_figure(samples).map(|drift| format!("P {}, R {}", drift.p, drift.r))));
+}
+
+/// One line: what an entry answers, and the buffer as it is left.
+fn short((name, fill): Entry, words: &str, row: &[i64]) {
+    let mut buffer = [7; 6];
+    let said = written(fill(row, &mut buffer));
+    println!("{name} {words}: {said}; buffer {}", values(&buffer));
 }
 
 /// One line: what an entry answers, and the Allan sum at factor 7 of the buffer as it is left.
