@@ -106,7 +106,7 @@ pub struct DeviationAnswer {
     pub deviation: u64,
 }
 
-/// The drift figure P over R.
+/// The drift figure P over R, with h the whole part of (N-1)/2.
 #[must_use]
 #[repr(C)]
 #[derive(Clone, Copy, Debug, PartialEq, Eq)]
@@ -115,9 +115,9 @@ pub struct DriftAnswer {
     pub number: u64,
     /// Where it was refused.
     pub place: u64,
-    /// P.
+    /// P = x_(2h) - 2 x_h + x_0.
     pub p: i64,
-    /// R.
+    /// R = h^2.
     pub r: u64,
 }
 

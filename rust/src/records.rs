@@ -4,13 +4,14 @@ use crate::boundary::{self, CountAnswer};
 use crate::refusals::{answered, Refusal};
 use crate::sums::{sums_of, Sums};
 
-/// Drift as P over R.
+/// Drift as P over R, in picoseconds per basic interval squared. With h the whole part of (N-1)/2, three samples decide P, as far apart as the record
+/// allows: the first, one in the middle, and the last or, where N is even, the last but one.
 #[must_use]
 #[derive(Clone, Copy, Debug, PartialEq, Eq)]
 pub struct Drift {
-    /// P = (x_(N-1) - x_(N-2)) - (x_1 - x_0).
+    /// P = x_(2h) - 2 x_h + x_0, the second difference at factor h and place 0.
     pub p: i64,
-    /// R = N-2.
+    /// R = h^2.
     pub r: u64,
 }
 
@@ -33,17 +34,18 @@ pub fn frequency_from_phase(samples: &[i64], buffer: &mut [i64]) -> Result<usize
     count_of(unsafe { boundary::plg_frequency_from_phase(samples.as_ptr(), samples.len(), buffer.as_mut_ptr(), buffer.len()) })
 }
 
-/// The drift figure P over R.
+/// The drift figure P over R of samples 0, h and 2h, where h is the whole part of (N-1)/2: P = x_(2h) - 2 x_h + x_0 and R = h^2. Where N is even, the
+/// last sample has no part in it.
 ///
-/// Refuses 2 (N above 32,768), 1 (N below 3), 3 (at the first sample outside its range).
+/// Refuses 2 (N above 32,768), 1 (N below 3), 3 (at the first sample outside its range, whether P reads it or not).
 pub fn drift_figure(samples: &[i64]) -> Result<Drift, Refusal> {
     let answer = unsafe { boundary::plg_drift_figure(samples.as_ptr(), samples.len()) };
     answered(answer.number, answer.place)?;
     Ok(Drift { p: answer.p, r: answer.r })
 }
 
-/// The record with its drift removed, written to the buffer: x_i - floor(P i (i-1) / (2R)), floored once, toward minus infinity. Gives how many were
-/// written.
+/// The record with its drift removed, written to the buffer: x_i - floor(P i (i-1) / (2R)), floored once, toward minus infinity, with P and R of
+/// [`drift_figure`]. N samples give N results. Gives how many were written.
 ///
 /// Refuses 2 (N above 32,768), 1 (N below 3), 6 (buffer below N), 3 (at the first sample outside its range), 3 (at the first result outside it).
 pub fn remove_drift(samples: &[i64], buffer: &mut [i64]) -> Result<usize, Refusal> {
