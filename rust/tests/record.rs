@@ -184,13 +184,19 @@ fn long_records() {
     tally.ran(3_200, &[0, 3]);
 }
 
-/// A record whose drift is set by its first and last steps, with the rest near the line between.
+/// Samples 0, h and 2h decide the drift of a record: h, the whole part of (N-1)/2.
+fn middle(length: usize) -> usize {
+    (length - 1) / 2
+}
+
+/// A record whose drift is set by samples 0, h and 2h, with the rest within a size of nought.
 fn drifting(random: &mut Random, length: usize) -> Vec<i64> {
     let size = random.sized(40) as i64;
     let mut samples: Vec<i64> = (0..length).map(|_| random.between(-size, size)).collect();
     let end = random.pick(&[END, END - 1, size, 1]);
-    samples[0] = random.pick(&[end, -end, 0]);
-    samples[length - 1] = random.pick(&[end, -end, 0]);
+    for index in [0, middle(length), 2 * middle(length)] {
+        samples[index] = random.pick(&[end, -end, 0]);
+    }
     samples
 }
 
