@@ -220,7 +220,7 @@ plg_count_answer plg_frequency_from_phase(const int64_t *samples, size_t samples
 plg_drift_answer plg_drift_figure(const int64_t *samples, size_t samples_length);
 
 /**
- * Drift removed: x_i - floor(P i (i-1) / (2R)), floored once, toward minus infinity. N samples give N results.
+ * Drift removed: x_i - floor(P i (i-1) / (2R)), floored once, toward minus infinity, with P and R of plg_drift_figure. N samples give N results.
  * Refuses 2, 1, 6 (buffer below N), 3 (at the first sample outside its range), 3 (at the first result outside it).
  */
 plg_count_answer plg_remove_drift(const int64_t *samples, size_t samples_length, int64_t *buffer, size_t buffer_length);
