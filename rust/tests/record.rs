@@ -5,7 +5,7 @@ mod shared;
 
 use independent::{drift, frequency, Answer};
 use ploegelster::boundary::CountAnswer;
-use ploegelster::{Ground, Refusal};
+use ploegelster::{Drift, Ground, Refusal};
 use shared::lent::{Lent, Sides};
 use shared::random::Random;
 use shared::records::{damage, maybe_damaged, record, rooms, OUTSIDE};
@@ -184,7 +184,7 @@ fn long_records() {
     tally.ran(3_200, &[0, 3]);
 }
 
-/// Samples 0, h and 2h decide the drift of a record: h, the whole part of (N-1)/2.
+/// h, the whole part of (N-1)/2: samples 0, h and 2h decide the drift of a record.
 fn middle(length: usize) -> usize {
     (length - 1) / 2
 }
@@ -229,6 +229,400 @@ fn drift_of_every_small_record() {
         }
     }
     tally.ran(19_500, &[0]);
+}
+
+/// The largest lengths, an odd and an even one of each h.
+const LONGEST: [usize; 4] = [32_765, 32_766, 32_767, 32_768];
+
+/// A record of these values at 0, h and 2h, and of one value elsewhere.
+fn of_three(length: usize, three: [i64; 3], rest: i64) -> Vec<i64> {
+    let h = middle(length);
+    let mut samples = vec![rest; length];
+    [samples[0], samples[h], samples[2 * h]] = three;
+    samples
+}
+
+/// The record with another value at one index.
+fn with(samples: &[i64], index: usize, value: i64) -> Vec<i64> {
+    let mut samples = samples.to_vec();
+    samples[index] = value;
+    samples
+}
+
+/// The refusal of a value outside the range at this index.
+fn outside(index: usize) -> Refusal {
+    Refusal { ground: Ground::OutOfRange, place: index as u64 }
+}
+
+/// This result at this index, or the refusal if it is outside the range.
+fn result_at(index: usize, result: i64) -> Result<i64, Refusal> {
+    if result < -END || result > END {
+        Err(outside(index))
+    } else {
+        Ok(result)
+    }
+}
+
+/// A case of the figure, for which the library must give this P, and h^2 for R.
+fn figure_is(tally: &mut Tally, samples: &[i64], p: i64) {
+    figure_case(tally, samples);
+    let h = middle(samples.len()) as u64;
+    assert_eq!(ploegelster::drift_figure(samples), Ok(Drift { p, r: h * h }), "drift figure, samples {}", shown(samples));
+}
+
+/// A case of the figure with this P, and one of the removal; gives what the library makes of the record.
+fn drift_case(tally: &mut Tally, samples: &[i64], p: i64) -> Result<Vec<i64>, Refusal> {
+    figure_is(tally, samples, p);
+    removal_case(tally, samples, samples.len());
+    let mut results = vec![0; samples.len()];
+    let written = ploegelster::remove_drift(samples, &mut results)?;
+    assert_eq!(written, samples.len());
+    Ok(results)
+}
+
+/// Both cases, where the removal must give this result at this index or, if it is outside the range, be refused there.
+fn result_case(tally: &mut Tally, samples: &[i64], p: i64, index: usize, result: i64) {
+    let removed = drift_case(tally, samples, p).map(|results| results[index]);
+    assert_eq!(removed, result_at(index, result), "result {index} of the samples {}", shown(samples));
+}
+
+/// A record with a drift of this sign: samples 0 and 2h on one side of nought, sample h on the other.
+fn bent(random: &mut Random, length: usize, sign: i64) -> Vec<i64> {
+    let (mut samples, h) = (record(random, length), middle(length));
+    let size = 1 + random.sized(40) as i64;
+    for (index, side) in [(0, sign), (h, -sign), (2 * h, sign)] {
+        samples[index] = side * random.between(1, size);
+    }
+    samples
+}
+
+#[test]
+fn drift_at_the_limits_of_length_and_room() {
+    let (mut tally, mut random) = (Tally::default(), Random::new(17));
+    for length in [2, 3, 4, 5, 6, 7, 32_766, 32_767, 32_768, 32_769] {
+        let (h, times) = (middle(length), if length <= 7 { 20 } else { 2 });
+        for sign in [1, -1].repeat(times) {
+            let sound = bent(&mut random, length, sign);
+            if length >= 3 && length <= 32_768 {
+                assert_eq!(ploegelster::drift_figure(&sound).map(|drift| drift.p.signum()), Ok(sign));
+            }
+            let mut damaged = sound.clone();
+            damage(&mut random, &mut damaged);
+            for samples in [sound, damaged] {
+                figure_case(&mut tally, &samples);
+                for room in [1, h, 2 * h, 2 * h + 1].into_iter().chain(rooms(length)) {
+                    removal_case(&mut tally, &samples, room);
+                }
+            }
+        }
+    }
+    tally.ran(5_120, &[0, 1, 2, 3, 6]);
+}
+
+#[test]
+fn shortest_records_by_hand() {
+    let mut tally = Tally::default();
+    // Of three samples the last result is 2 x_1 - x_0, whatever x_2 is.
+    for (first, second, result) in [
+        (END, END, END),
+        (END - 1, END, END + 1),
+        (0, END / 2, END),
+        (-1, END / 2, END + 1),
+        (-END, -END, -END),
+        (1 - END, -END, -END - 1),
+        (0, -END / 2, -END),
+        (1, -END / 2, -END - 1),
+    ] {
+        for third in [-END, 1 - END, -1, 0, 1, END - 1, END] {
+            result_case(&mut tally, &[first, second, third], third - 2 * second + first, 2, result);
+        }
+    }
+    // Of four, P times 3 is taken from the last; of five and six, R is 4, and P times 1, 3, 6 and 10 is divided by it.
+    let rows: [(&[i64], i64, usize, i64); 18] = [
+        (&[END - 1, END, END, -END], -1, 2, END + 1),
+        (&[END, END, END - 1, END - 2], -1, 3, END + 1),
+        (&[END, END, END - 1, END - 3], -1, 3, END),
+        (&[-END, -END, 1 - END, 2 - END], 1, 3, -END - 1),
+        (&[-END, -END, 1 - END, 3 - END], 1, 3, -END),
+        (&[END, 0, END, END], 2 * END, 3, -5 * END),
+        (&[END - 1, 0, END, 0, END], -1, 2, END + 1),
+        (&[END, 0, END, 0, END], 0, 2, END),
+        (&[END - 2, 0, END - 1, 0, END - 1], -1, 4, END + 1),
+        (&[END - 1, 0, END - 1, 0, END - 2], -1, 4, END),
+        (&[4 - END, 0, -END, 0, -END], 4, 2, -END - 1),
+        (&[3 - END, 0, -END, 0, -END], 3, 4, -END - 4),
+        (&[1 - END, 0, 1 - END, 0, 4 - END], 3, 4, -END),
+        (&[0, 0, 0, END, -1], -1, 3, END + 1),
+        (&[0, 0, 0, 0, -1, END], -1, 5, END + 3),
+        (&[0, 0, 0, 0, -1, END - 2], -1, 5, END + 1),
+        (&[0, 0, 0, 0, -1, END - 3], -1, 5, END),
+        (&[0, 0, 0, 0, 1, 1 - END], 1, 5, -END - 1),
+    ];
+    for (samples, p, index, result) in rows {
+        result_case(&mut tally, samples, p, index, result);
+    }
+    tally.ran(148, &[0, 3]);
+}
+
+#[test]
+fn one_picosecond_at_the_first_index_that_can_leave() {
+    let mut tally = Tally::default();
+    // Results 0 and 1 are the samples, and result 2 is x_2 - floor(P / R).
+    for length in (7..=120).chain(LONGEST) {
+        let r = middle(length).pow(2) as i64;
+        for (p, third, result) in [
+            (-1, END, END + 1),
+            (-1, END - 1, END),
+            (0, END, END),
+            (-r, END, END + 1),
+            (-r - 1, END - 1, END + 1),
+            (r, -END, -END - 1),
+            (r, 1 - END, -END),
+            (r - 1, -END, -END),
+        ] {
+            result_case(&mut tally, &with(&of_three(length, [p, 0, 0], 0), 2, third), p, 2, result);
+        }
+    }
+    tally.ran(1_888, &[0, 3]);
+}
+
+#[test]
+fn one_picosecond_at_the_last_index() {
+    let mut tally = Tally::default();
+    for length in (3..=120).chain(LONGEST) {
+        let (h, last) = (middle(length) as i64, length - 1);
+        if length % 2 == 1 {
+            // The last result is x_(2h) - floor(P (2h-1) / h): at P = 1 that takes 1 away, and P = -1 adds 1 if h is 1, else 2.
+            let up = if h == 1 { 1 } else { 2 };
+            for (p, result) in [(1, -END - 1), (0, -END), (-1, -END + up)] {
+                result_case(&mut tally, &of_three(length, [p, -END / 2, -END], 0), p, last, result);
+            }
+            for (p, result) in [(-1, END + up), (0, END), (1, END - 1)] {
+                result_case(&mut tally, &of_three(length, [p, END / 2, END], 0), p, last, result);
+            }
+            // P = kh takes k (2h-1) away: from near one end to the other, and one past it.
+            let k = 2 * END / (2 * h - 1);
+            for sign in [1, -1] {
+                for past in [0, 1] {
+                    let three = [END - k * (h - 1) - 2 + past, -1, k * (2 * h - 1) - END - past].map(|x| sign * x);
+                    result_case(&mut tally, &of_three(length, three, sign * END), sign * k * h, last, -sign * (END + past));
+                }
+            }
+        } else {
+            // It is x_(2h+1) - floor(P (2h+1) / h), of a sample that P does not read: P = 1 takes 3 away if h is 1, else 2, and P = -1 adds 3.
+            let down = if h == 1 { 3 } else { 2 };
+            let falling = [(1, down - END, -END), (1, down - END - 1, -END - 1), (0, -END, -END)];
+            let rising = [(-1, END - 3, END), (-1, END - 2, END + 1), (0, END, END)];
+            for (p, sample, result) in falling.into_iter().chain(rising) {
+                result_case(&mut tally, &with(&of_three(length, [p, 0, 0], 0), last, sample), p, last, result);
+            }
+            // P = kh takes k (2h+1) away.
+            let k = 2 * END / (2 * h + 1);
+            for sign in [1, -1] {
+                for past in [0, 1] {
+                    let samples = of_three(length, [k * h, END / 2, END].map(|x| sign * x), sign * END);
+                    let samples = with(&samples, last, sign * (k * (2 * h + 1) - END - past));
+                    result_case(&mut tally, &samples, sign * k * h, last, -sign * (END + past));
+                }
+            }
+        }
+    }
+    tally.ran(2_440, &[0, 3]);
+}
+
+/// Where the removal leaves the range, by the rule multiplied out: result i is below the range if P i (i-1) is at least 2R (x_i + 2^40 + 1), and
+/// above it if P i (i-1) is below 2R (x_i - 2^40).
+fn leaves_at(samples: &[i64], p: i64) -> Option<usize> {
+    let (h, end) = (middle(samples.len()), END as i128);
+    (0..samples.len()).find(|&i| {
+        let (product, twice, x) = (p as i128 * (i * i - i) as i128, 2 * (h * h) as i128, samples[i] as i128);
+        product >= twice * (x + end + 1) || product < twice * (x - end)
+    })
+}
+
+#[test]
+fn three_samples_at_the_ends_or_one_inside() {
+    let mut tally = Tally::default();
+    for length in (3..=40).chain([32_767, 32_768]) {
+        let rests = if length <= 40 { &[0, 1, -1, END, -END][..] } else { &[0] };
+        for number in 0..64 {
+            let three = [1, 4, 16].map(|place| [END, END - 1, 1 - END, -END][number / place % 4]);
+            let p = three[2] - 2 * three[1] + three[0];
+            for &rest in rests {
+                let samples = of_three(length, three, rest);
+                let place = leaves_at(&samples, p);
+                assert_eq!(drift_case(&mut tally, &samples, p).err(), place.map(outside), "samples {}", shown(&samples));
+            }
+        }
+    }
+    tally.ran(24_576, &[0, 3]);
+}
+
+#[test]
+fn three_samples_near_one_end() {
+    let mut tally = Tally::default();
+    for length in (5..=60).chain(LONGEST) {
+        let h = middle(length);
+        for number in 0..8 {
+            let [a, b, c] = [1, 2, 4].map(|place| number / place % 2);
+            // Near the upper end any drift below nought lifts sample h by 1 at least.
+            let p = 2 * b - a - c;
+            let place = if p < 0 { Some(h) } else { None };
+            let samples = of_three(length, [END - a, END - b, END - c], 0);
+            assert_eq!(drift_case(&mut tally, &samples, p).err(), place.map(outside), "samples {}", shown(&samples));
+            // Near the lower end a drift of 1 or 2 leaves sample h where it is, and takes 1 or 3 from sample 2h.
+            let place = if a == 1 && b == 0 { Some(2 * h) } else { None };
+            let samples = of_three(length, [a - END, b - END, c - END], 0);
+            assert_eq!(drift_case(&mut tally, &samples, -p).err(), place.map(outside), "samples {}", shown(&samples));
+        }
+    }
+    tally.ran(1_920, &[0, 3]);
+}
+
+#[test]
+fn three_samples_at_both_ends() {
+    let mut tally = Tally::default();
+    // Noughts between leave as soon as 2 i (i-1) is above h^2, where P is 4 times 2^40 either way; above 2h^2, where it is 2 times that.
+    for (h, place) in [(3, 3), (4, 4), (10, 8), (100, 72), (1_000, 708), (16_382, 11_585), (16_383, 11_586)] {
+        for length in [2 * h + 1, 2 * h + 2] {
+            for end in [END, -END] {
+                let removed = drift_case(&mut tally, &of_three(length, [end, -end, end], 0), 4 * end);
+                assert_eq!(removed.err(), Some(outside(place)), "h is {h}");
+                let removed = drift_case(&mut tally, &of_three(length, [end, 0, end], 0), 2 * end);
+                assert_eq!(removed.err(), Some(outside(h + 1)), "h is {h}");
+            }
+        }
+    }
+    // Here 2 i (i-1) is h^2, so that result i is x_i - floor(P/4): it stays with one sample and leaves with the next. Result i+1 leaves in any case.
+    for (h, i) in [(12, 9), (70, 50), (408, 289), (2_378, 1_682), (13_860, 9_801)] {
+        for (three, p, stays, leaves) in [
+            ([END, -END, END], 4 * END, 0, -1),
+            ([END - 1, -END, END], 4 * END - 1, -1, -2),
+            ([END, 1 - END, END], 4 * END - 2, -1, -2),
+            ([END - 1, 1 - END, END - 1], 4 * END - 4, -1, -2),
+            ([-END, END, -END], -4 * END, 0, 1),
+            ([1 - END, END, -END], 1 - 4 * END, 0, 1),
+            ([-END, END - 1, -END], 2 - 4 * END, 0, 1),
+            ([1 - END, END - 1, 1 - END], 4 - 4 * END, 1, 2),
+        ] {
+            for length in [2 * h + 1, 2 * h + 2] {
+                for (sample, place) in [(stays, i + 1), (leaves, i)] {
+                    let removed = drift_case(&mut tally, &with(&of_three(length, three, 0), i, sample), p);
+                    assert_eq!(removed.err(), Some(outside(place)), "h is {h}, P is {p}, sample {i} is {sample}");
+                }
+            }
+        }
+    }
+    tally.ran(432, &[0, 3]);
+}
+
+/// The record with a bad sample at this index, the first of its bad ones: both entries refuse it there, whether P reads it or not.
+fn bad_sample(tally: &mut Tally, samples: &[i64], index: usize) {
+    for value in OUTSIDE {
+        let samples = with(samples, index, value);
+        figure_case(tally, &samples);
+        removal_case(tally, &samples, samples.len());
+        assert_eq!(ploegelster::drift_figure(&samples), Err(outside(index)), "samples {}", shown(&samples));
+        assert_eq!(ploegelster::remove_drift(&samples, &mut vec![0; samples.len()]), Err(outside(index)), "samples {}", shown(&samples));
+    }
+}
+
+#[test]
+fn bad_samples_are_refused_before_results() {
+    let mut tally = Tally::default();
+    for length in (3..=16).chain([32_767, 32_768]) {
+        let h = middle(length);
+        let mut indexes: Vec<usize> = if length <= 16 { (0..length).collect() } else { vec![0, h - 1, h, h + 1, 2 * h - 1, 2 * h, length - 1] };
+        indexes.dedup();
+        // Of one record no result leaves the range, of the other the first that can.
+        let (flat, mut steep) = (vec![0; length], of_three(length, [END, -END, END], 0));
+        if h > 1 {
+            steep[2] = -END;
+        }
+        assert_eq!(drift_case(&mut tally, &flat, 0), Ok(flat.clone()));
+        assert_eq!(drift_case(&mut tally, &steep, 4 * END), Err(outside(2)));
+        for index in indexes {
+            bad_sample(&mut tally, &flat, index);
+            bad_sample(&mut tally, &steep, index);
+            // All samples after it are bad too.
+            let mut tail = steep.clone();
+            tail[index..].fill(-END - 1);
+            bad_sample(&mut tally, &tail, index);
+        }
+    }
+    tally.ran(7_072, &[0, 3]);
+}
+
+#[test]
+fn three_samples_decide_the_drift() {
+    let (mut tally, mut random) = (Tally::default(), Random::new(18));
+    for length in (3..=40).chain(LONGEST) {
+        let h = middle(length);
+        let indexes = if length <= 40 { (0..length).collect() } else { vec![0, 1, h - 1, h, h + 1, 2 * h - 1, 2 * h, length - 1] };
+        for _ in 0..4 {
+            let samples = record(&mut random, length);
+            let p = samples[2 * h] - 2 * samples[h] + samples[0];
+            figure_is(&mut tally, &samples, p);
+            // One sample changes: P by as much at 0 and 2h, by twice as much the other way at h, and not at all elsewhere.
+            for &index in &indexes {
+                let times = [(0, 1), (h, -2), (2 * h, 1)].into_iter().find(|&(read, _)| read == index).map_or(0, |(_, times)| times);
+                for value in [END, -END, random.between(-END, END)] {
+                    figure_is(&mut tally, &with(&samples, index, value), p + times * (value - samples[index]));
+                }
+            }
+            // All but these three change.
+            let mut other = record(&mut random, length);
+            for index in [0, h, 2 * h] {
+                other[index] = samples[index];
+            }
+            figure_is(&mut tally, &other, p);
+        }
+    }
+    tally.ran(10_524, &[0]);
+}
+
+#[test]
+fn the_last_of_an_even_record_has_no_part_in_the_drift() {
+    let (mut tally, mut random) = (Tally::default(), Random::new(19));
+    for length in (4..=80).step_by(2).chain([32_766, 32_768]) {
+        let (h, last) = (middle(length), length - 1);
+        for _ in 0..4 {
+            // So small that all results stay in range.
+            let samples: Vec<i64> = (0..length).map(|_| random.between(-END / 16, END / 16)).collect();
+            let p = samples[2 * h] - 2 * samples[h] + samples[0];
+            let results = drift_case(&mut tally, &samples, p).expect("all results are in range");
+            for value in [-END, 1 - END, -1, 0, 1, END - 1, END] {
+                let result = results[last] + value - samples[last];
+                let removed = drift_case(&mut tally, &with(&samples, last, value), p);
+                assert!(removed == result_at(last, result).map(|result| with(&results, last, result)), "last sample {value}, {}", shown(&samples));
+            }
+        }
+    }
+    tally.ran(2_624, &[0, 3]);
+}
+
+#[test]
+fn a_parabola_becomes_its_line() {
+    let (mut tally, mut random) = (Tally::default(), Random::new(20));
+    let mut parabola = |length: usize, first: i64, step: i64, k: i64| {
+        let line: Vec<i64> = (0..length as i64).map(|i| first + step * i).collect();
+        let samples: Vec<i64> = (0..).zip(&line).map(|(i, x)| x + k * (i * (i - 1) / 2)).collect();
+        let removed = drift_case(&mut tally, &samples, k * middle(length).pow(2) as i64);
+        assert!(removed == Ok(line), "from {first}, step {step}, k {k}, {}", shown(&samples));
+    };
+    for length in (3..=60).chain(LONGEST) {
+        let last = length as i64 - 1;
+        for _ in 0..10 {
+            let mut within = |end: i64| random.between(-end, end);
+            parabola(length, within(END / 4), within(END / 4 / last), within(END / (last * (last - 1))));
+        }
+    }
+    // From one end of the range to the other.
+    parabola(32_768, -END, 0, 4_096);
+    parabola(32_768, END, 0, -4_096);
+    parabola(3, -END, 0, 2 * END);
+    parabola(3, END, 0, -2 * END);
+    tally.ran(1_248, &[0]);
 }
 
 #[test]
