@@ -83,7 +83,7 @@ use Rattle.phr.proofs.write_file.Reads as write-file
 use Rattle.phr.proofs.write_file.Kinds as write-file-kinds
 use Rattle.acceptance.specs.Figures.{sumIs, fractionIs, squares}
 use Rattle.acceptance.specs.Grounds
-use Rattle.acceptance.specs.Promises.{SumOf, PartsOf, FractionOf, BackAndForth, DotOf, ToldAs, TypeByTable, NoiseOf, HalfOf, BarsOf, DriftRemoved, ReadsBack}
+use Rattle.acceptance.specs.Promises.{SumOf, PartsOf, FractionOf, BackAndForth, DotOf, ToldAs, TypeByTable, NoiseOf, HalfOf, BarsOf, DriftRemoved, ConstantDrift, ReadsBack}
 use Rattle.acceptance.proofs.Grounding.{answered-none}
 use Rattle.acceptance.proofs.RecordGrounds.{record-agrees, multiple-agrees}
 use Rattle.acceptance.proofs.FigureGrounds.{fraction-agrees, deviation-agrees, dotted-none}
@@ -93,7 +93,7 @@ use Rattle.acceptance.proofs.TypeGrounds.{type-agrees, bars-agree, alph
 use Rattle.acceptance.proofs.RecordTypeGrounds.{record-type-agrees}
 use Rattle.acceptance.proofs.FileGrounds.{writing-agrees, reading-agrees}
 use Rattle.acceptance.proofs.Grounds.{allan-sum-grounds, modified-sum-grounds, allan-fraction-grounds, time-fraction-grounds, allan-deviation-grounds, time-deviation-grounds, phase-from-frequency-grounds, frequency-from-phase-grounds, drift-figure-grounds, remove-drift-grounds, float-sums-grounds, drawn-number-grounds, allan-dot-grounds, time-dot-grounds, noise-type-grounds, noise-of-record-grounds, plg-noise-type-grounds, plg-noise-of-record-grounds, bars-grounds, plg-bars-grounds, read-file-grounds, write-file-grounds}
-use Rattle.acceptance.proofs.PromiseLaws.{allan-sum-of, modified-sum-of, phases-of, differences-of, differences-left, back-and-forth, drift-of, divisor-some, result-of, drift-removed, one-result, same-slope, float-sums-of, float-samples-of, reads-files-alone, reads-every-file, count-of, output-left, file-left, one-value-unrefused, written-proper, reads-back, drawn-of, dot-told, allan-dot-of, time-dot-of, allan-fraction-of, time-fraction-of, allan-deviation-of, time-deviation-of, allan-deviation-of-record, time-deviation-of-record, type-of, noise-of, bars-of, half-below-deviation, low-above-nought}
+use Rattle.acceptance.proofs.PromiseLaws.{allan-sum-of, modified-sum-of, phases-of, differences-of, differences-left, back-and-forth, square-of-half, drift-of, divisor-some, result-of, drift-removed, one-result, same-slope, constant-slope, line-left, float-sums-of, float-samples-of, reads-files-alone, reads-every-file, count-of, output-left, file-left, one-value-unrefused, written-proper, reads-back, drawn-of, dot-told, allan-dot-of, time-dot-of, allan-fraction-of, time-fraction-of, allan-deviation-of, time-deviation-of, allan-deviation-of-record, time-deviation-of-record, type-of, noise-of, bars-of, half-below-deviation, low-above-nought}
 use Rattle.acceptance.proofs.Figures.{starred-figures}
 
 -- ---- the published sums: x the record, N its length, m the factor
@@ -361,6 +361,26 @@ last-sample-changes-its-own-result κs args z w is κs′ args′ z′ w′ is�
     let one = removal-published κs args z w is answered .1 k (omega arith) in
     let other = removal-published κs′ args′ z′ w′ is′ answered′ .1 k (omega (arith, as-long)) in
     one-result (divisor-some xs (omega arith)) one (rw (as-long, same-slope xs (now (args′ .0)) (omega arith) even same, same k inside) at other)
+
+-- A constant drift is found, P over R being what it is, and is taken out: what is left is the line.
+pub constant-drift-found : Always 1 drift-figure-kinds.ps drift-figure-kinds.r drift-figure.Post
+    (λ κs args z w. let xs = now (args .0) in z .number ≡ 0 → (a b c : ℤ) → ConstantDrift a b c xs → z .p ≡ c *ℤ pos (z .r))
+constant-drift-found κs args z w is answered a b c constant =
+    let grounds = drift-figure-grounds κs args z w is in
+    let enough : length (now (args .0)) < 3 → ⊥ = λ few. grounds .answered answered .1 1 0 (Grounds.few few) in
+    let published = drift-published κs args z w is answered in
+    rw (published .0, published .2) (constant-slope a b c (now (args .0)) (omega arith) constant)
+
+pub constant-drift-removed : Always 2 remove-drift-kinds.ps remove-drift-kinds.r remove-drift.Post
+    (λ κs args z w. let xs = now (args .0) in let left = w .1 .0 in
+    z .number ≡ 0 → (a b c : ℤ) → ConstantDrift a b c xs → (i : ℕ) → i < length xs → at left i ≡ a +ℤ b *ℤ pos i)
+constant-drift-removed κs args z w is answered a b c constant i inside =
+    let xs = now (args .0) in
+    let grounds = remove-drift-grounds κs args z w is in
+    let enough : length xs < 3 → ⊥ = λ few. grounds .answered answered .1 1 0 (Grounds.few few) in
+    let some = divisor-some xs (omega arith) in
+    let removed = removal-published κs args z w is answered .1 i inside in
+    one-result some (line-left a b c (square-of-half xs) i some) (rw (constant-slope a b c xs (omega arith) constant, constant i inside) at removed)
 
 -- ---- the record file
 

@@ -15,10 +15,11 @@ use lib.Ieee.Positive.{positive}
 use lib.IntN.{ℤ, pos, negℤ, natAbs, _+ℤ_, _-ℤ_, _*ℤ_}
 use lib.ListN.{length, getD, take}
 use lib.Seq.{take-at}
+use lib.Signed.{_≤ℤ_, _<ℤ_}
 use Rattle.laws.specs.Greatest.{Greatest}
 use Rattle.laws.specs.Lists.{at, written}
 use Rattle.laws.specs.Sums.{sumℤ}
-use Rattle.laws.proofs.Expressions.{$_, _⊖_, equation}
+use Rattle.laws.proofs.Expressions.{Expression, $_, #_, _⊕_, _⊖_, _⊗_, equation, at-most, less-than}
 use Rattle.laws.proofs.ListLaws.{tabulate-entry, written-front}
 use Rattle.wide.specs.Wide.{value, halves}
 use Rattle.wide.proofs.WideLaws.{value-of-halves}
@@ -32,7 +33,7 @@ use Rattle.frequency.specs.Frequency.{phases, phaseRefusal, differences, freque
 use Rattle.frequency.proofs.FrequencyLaws.{phases-length, phase-is, differences-length, difference-is}
 use Rattle.frequency.proofs.RoundTrip.{phases-of-differences, refused-at-first-offset, unrefused-in-reach}
 use Rattle.drift.specs.Drift.{driftH, driftP, driftR, driftRefusal, driftAnswer, floored, withoutDrift, removalRefusal}
-use Rattle.drift.proofs.DriftLaws.{written-out, without-drift-length}
+use Rattle.drift.proofs.DriftLaws.{written-out, triangle-is, triangle-double, without-drift-length}
 use Rattle.drift.proofs.Floors.{floored-at-most, one-more-above, floored-only}
 use Rattle.sums.specs.Published.{difference, allanSum, allanCount, allanDenominator, modifiedSum, modifiedCount, timeDenominator}
 use Rattle.sums.specs.Answers.{allanDemand, modifiedDemand, partOf, allanSumAnswer, modifiedSumAnswer}
@@ -77,7 +78,7 @@ use Rattle.ploegelster.specs.Boundary.{dotKind, toldDot}
 use Rattle.acceptance.specs.Grounds
 use Rattle.acceptance.specs.Grounds.{NoRow, OfDrawn, OfBars}
 use Rattle.acceptance.specs.Promises
-use Rattle.acceptance.specs.Promises.{SumOf, PartsOf, FractionOf, BackAndForth, DotOf, ToldAs, TypeByTable, NoiseOf, Kappa, HalfOf, BarsOf, DriftRemoved, ReadsBack}
+use Rattle.acceptance.specs.Promises.{SumOf, PartsOf, FractionOf, BackAndForth, DotOf, ToldAs, TypeByTable, NoiseOf, Kappa, HalfOf, BarsOf, DriftRemoved, ConstantDrift, ReadsBack}
 
 -- ---- sums, of a record that is not refused
 
@@ -239,6 +240,41 @@ same-slope xs ys enough even same =
     let middle : half xs + 1 < length xs = omega arith in
     let last : 2 * half xs + 1 < length xs = omega arith in
     rw (← written-out (half xs) ys, ← written-out (half xs) xs, same 0 (omega arith), same _ middle, same _ last) refl
+
+-- a line and a constant drift
+module _ (a b c : ℤ) where
+  abbrev pub line : ℕ → ℤ
+  line i = a +ℤ b *ℤ pos i
+
+  abbrev pub bent : ℕ → ℤ
+  bent i = line i +ℤ c *ℤ pos (i * (i - 1) / 2)
+
+  bent-difference : (h : ℕ) → bent (2 * h) -ℤ pos 2 *ℤ bent h +ℤ bent 0 ≡ c *ℤ pos (h * h)
+  bent-difference h =
+      let t = h * (h - 1) / 2 in
+      let along : ℕ → Expression = λ i. $ a ⊕ $ b ⊗ # i in
+      rw (triangle-double h)
+      (equation (along (2 * h) ⊕ $ c ⊗ # (2 * t + h * h) ⊖ # 2 ⊗ (along h ⊕ $ c ⊗ # t) ⊕ (along 0 ⊕ $ c ⊗ # 0)) ($ c ⊗ # (h * h)) (omega arith))
+
+  pub constant-slope : (xs : List ℤ) → 3 ≤ length xs → ConstantDrift a b c xs → slope xs ≡ c *ℤ pos (square-of-half xs)
+  constant-slope xs enough constant =
+      let middle : half xs < length xs = omega arith in
+      let last : 2 * half xs < length xs = omega arith in
+      sym (written-out (half xs) xs) ∙ rw (constant _ last, constant _ middle, constant 0 (omega arith)) (bent-difference (half xs))
+
+  -- what is left of it is the line
+  pub line-left : (R i : ℕ) → 0 < 2 * R → DriftRemoved (c *ℤ pos R) R i (bent i) (line i)
+  line-left R i some =
+      let t = i * (i - 1) / 2 in
+      let off = ($ line i ⊕ $ c ⊗ # t) ⊖ $ line i in
+      record {
+        not-above =
+            subst (λ (n : ℕ). ((bent i -ℤ line i) *ℤ pos (2 * R)) ≤ℤ ((c *ℤ pos R) *ℤ pos n)) (triangle-is i)
+            (at-most (off ⊗ # (2 * R)) ($ c ⊗ # R ⊗ # (2 * t)) (omega arith));
+        next-above =
+            subst (λ (n : ℕ). ((c *ℤ pos R) *ℤ pos n) <ℤ (((bent i -ℤ line i) +ℤ pos 1) *ℤ pos (2 * R))) (triangle-is i)
+            (less-than ($ c ⊗ # R ⊗ # (2 * t)) ((off ⊕ # 1) ⊗ # (2 * R)) (omega arith));
+      }
 
 -- ---- float readings
 

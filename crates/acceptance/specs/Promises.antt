@@ -117,6 +117,10 @@ pub record DriftRemoved (P : ℤ) (R i : ℕ) (x y : ℤ) : Type 0 where
   pub not-above : ((x -ℤ y) *ℤ pos (2 * R)) ≤ℤ (P *ℤ pos (i * (i - 1)))
   pub next-above : (P *ℤ pos (i * (i - 1))) <ℤ (((x -ℤ y) +ℤ pos 1) *ℤ pos (2 * R))
 
+-- a line and a constant drift: x_i = a + b i + c i (i-1) / 2
+abbrev pub ConstantDrift : ℤ → ℤ → ℤ → List ℤ → Type 0
+ConstantDrift a b c xs = (i : ℕ) → i < length xs → at xs i ≡ a +ℤ b *ℤ pos i +ℤ c *ℤ pos (i * (i - 1) / 2)
+
 -- ---- the record file
 
 -- what is read is the kind and the values

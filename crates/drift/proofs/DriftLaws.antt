@@ -226,6 +226,14 @@ triangle-is (suc n) =
     let before : suc n - 1 ≡ n = omega arith in
     rw before (omega (arith, neighbours-even n))
 
+-- T at 2h is twice T at h, and h^2
+pub triangle-double : (h : ℕ) → 2 * h * (2 * h - 1) / 2 ≡ 2 * (h * (h - 1) / 2) + h * h
+triangle-double zero = refl
+triangle-double (suc n) =
+    let one : suc n - 1 ≡ n = omega arith in
+    let other : 2 * suc n - 1 ≡ 2 * n + 1 = omega arith in
+    rw (other, one) (omega (arith, rw other at (triangle-is (2 * suc n)), rw one at (triangle-is (suc n))))
+
 pub neighbours-below : (i : ℕ) → i ≤ 2 ^ 15 → i * (i - 1) < 2 ^ 30
 neighbours-below i few =
     let less : i - 1 ≤ 2 ^ 15 - 1 = omega arith in
