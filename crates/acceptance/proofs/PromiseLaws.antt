@@ -19,8 +19,9 @@ use lib.Signed.{_≤ℤ_, _<ℤ_}
 use Rattle.laws.specs.Greatest.{Greatest}
 use Rattle.laws.specs.Lists.{at, written}
 use Rattle.laws.specs.Sums.{sumℤ}
-use Rattle.laws.proofs.Expressions.{Expression, $_, #_, _⊕_, _⊖_, _⊗_, equation, at-most, less-than}
+use Rattle.laws.proofs.Expressions.{Expression, $_, #_, _⊕_, _⊖_, _⊗_, sound, equation, at-most, less-than}
 use Rattle.laws.proofs.ListLaws.{tabulate-entry, written-front}
+use Rattle.laws.proofs.Parts.{equal-by-parts, parts-of-equal}
 use Rattle.wide.specs.Wide.{value, halves}
 use Rattle.wide.proofs.WideLaws.{value-of-halves}
 use Rattle.record.specs.Answers.{countAnswer, bufferLeft}
@@ -231,7 +232,7 @@ module _ (xs : List ℤ) where
 pub one-result : {P : ℤ} {R i : ℕ} {x y y′ : ℤ} → 0 < 2 * R → DriftRemoved P R i x y → DriftRemoved P R i x y′ → y′ ≡ y
 one-result {x = x} {y = y} {y′ = y′} some one other =
     let off : x -ℤ y′ ≡ x -ℤ y = sym (floored-only _ some _ _ (other .not-above) (other .next-above)) ∙ floored-only _ some _ _ (one .not-above) (one .next-above) in
-    equation ($ y′) ($ x ⊖ ($ x ⊖ $ y′)) (omega arith) ∙ ap (λ (q : ℤ). x -ℤ q) off ∙ equation ($ x ⊖ ($ x ⊖ $ y)) ($ y) (omega arith)
+    equal-by-parts y′ y (omega (arith, parts-of-equal off, sound ($ x ⊖ $ y′), sound ($ x ⊖ $ y)))
 
 -- where N is even, records that are the same but for the last sample have one P
 pub same-slope : (xs ys : List ℤ) → 3 ≤ length xs → length xs % 2 ≡ 0 → ((k : ℕ) → k + 1 < length xs → at ys k ≡ at xs k) →

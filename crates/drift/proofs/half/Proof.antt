@@ -1,4 +1,4 @@
--- `drift::half` meets its contract: there is a sample to leave out.
+-- `drift::half` meets its contract: N is not nought, so that 1 can be taken from it.
 use native.Mathlib.Omega.{arith}
 use Rattle.drift.proofs.DriftLaws.{none-drifting, half-is}
 use Rattle.drift.proofs.half.Statement.{statement}
