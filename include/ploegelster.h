@@ -10,7 +10,7 @@
  *   1  too few samples, a count of 0, or M below 10 for bars                   place 0
  *   2  too many samples, readings, counts or M                                 place 0
  *   3  a value outside its range                                               index of the first, else 0
- *   4  a float reading in range that is not whole, or one that is not a number its index
+ *   4  a float reading that is not a number                                    its index
  *   5  factor outside its range                                                place 0
  *   6  a lent buffer shorter than the output, or a ring shorter than 3m        place 0
  *   7  the meter does not hold together                                        place 0
@@ -25,7 +25,9 @@
  * What the caller owes, and nothing else:
  *   - a pointer is not null, is aligned for its type, and is good for as many entries as the length beside it says, also where that length is 0;
  *     what is only read (samples, readings, bytes, values) has been given values;
- *   - a buffer that the call may write overlaps no other buffer of the same call, and nobody else uses it before the call returns.
+ *   - a buffer that the call may write overlaps no other buffer of the same call, and nobody else uses it before the call returns;
+ *   - floating-point exceptions are masked, as they are where every C program starts. The modes are the caller's own: whichever way the machine rounds,
+ *     and whether it takes subnormals for nought, as after linking with -ffast-math, every answer has the same bits.
  * The library keeps no state, takes no memory and calls nothing; calls on different buffers may be made from different threads.
  *
  * Units. Samples are picoseconds, one a basic interval. The Allan and modified variances are in square picoseconds per basic interval squared, the
@@ -46,7 +48,7 @@ extern "C" {
 #endif
 
 /** The version: the first number changes where a program that used the one before must be changed or compiled anew. */
-#define PLG_VERSION_MAJOR 4
+#define PLG_VERSION_MAJOR 5
 #define PLG_VERSION_MINOR 0
 #define PLG_VERSION_PATCH 0
 
@@ -79,7 +81,7 @@ extern "C" {
 #define PLG_TOO_FEW 1
 #define PLG_TOO_MANY 2
 #define PLG_OUT_OF_RANGE 3
-#define PLG_NOT_WHOLE 4
+#define PLG_NOT_A_NUMBER 4
 #define PLG_BAD_FACTOR 5
 #define PLG_NO_ROOM 6
 #define PLG_BAD_METER 7
@@ -94,7 +96,7 @@ static inline const char *plg_refusal_text(uint64_t number)
     case PLG_TOO_FEW: return "too few samples, counts or intervals";
     case PLG_TOO_MANY: return "too many samples, readings, counts or intervals";
     case PLG_OUT_OF_RANGE: return "a value outside its range";
-    case PLG_NOT_WHOLE: return "a reading that is not whole, or not a number";
+    case PLG_NOT_A_NUMBER: return "a reading that is not a number";
     case PLG_BAD_FACTOR: return "a factor outside its range";
     case PLG_NO_ROOM: return "a lent buffer or ring that is too short";
     case PLG_BAD_METER: return "a meter that does not hold together";
@@ -120,6 +122,9 @@ typedef struct { uint64_t number; plg_wide sum; uint64_t count; } plg_part;
 
 /** Both sums; number and place are the call's own, and each part has its own number besides. */
 typedef struct { uint64_t number, place; plg_part allan, modified; } plg_sums_answer;
+
+/** Both sums of float readings, and how many of the readings were changed: those with a fraction. */
+typedef struct { uint64_t number, place; plg_part allan, modified; uint64_t changed; } plg_float_sums_answer;
 
 /** A fraction in lowest terms. */
 typedef struct { uint64_t number, place; plg_wide numerator; uint64_t denominator; } plg_fraction_answer;
@@ -228,11 +233,13 @@ plg_count_answer plg_remove_drift(const int64_t *samples, size_t samples_length,
 /* ---- float readings */
 
 /**
- * Samples from doubles, written to the buffer, and both sums of them. The modified part has number 1 where N is below 3m.
- * Refuses 5, 2 (N above 32,768), 1 (N below 2m+1), 6 (buffer below N), then at the lowest index 3 (infinite or beyond the sample range) or 4 (in
- * range and not whole, or not a number).
+ * Samples from doubles, written to the buffer, and both sums of them. A reading becomes the nearest whole number, on a tie the even one: 0.5 becomes 0,
+ * 1.5 becomes 2, -2.5 becomes -2. How many readings had a fraction is answered as changed, so that 0 says that every sample is its reading exactly;
+ * minus zero has no fraction, and a subnormal has one. The modified part has number 1 where N is below 3m.
+ * Refuses 5, 2 (N above 32,768), 1 (N below 2m+1), 6 (buffer below N), then at the lowest index 3 (infinite, or beyond the sample range before rounding:
+ * 2^40 - 0.5 is taken, 2^40 + 0.5 is not) or 4 (not a number).
  */
-plg_sums_answer plg_float_sums(const double *readings, size_t readings_length, uint64_t m, int64_t *buffer, size_t buffer_length);
+plg_float_sums_answer plg_float_sums(const double *readings, size_t readings_length, uint64_t m, int64_t *buffer, size_t buffer_length);
 
 /* ---- what is drawn */
 

@@ -78,6 +78,23 @@ pub struct SumsAnswer {
     pub modified: Part,
 }
 
+/// Both sums of float readings; number and place are the call's own.
+#[must_use]
+#[repr(C)]
+#[derive(Clone, Copy, Debug, PartialEq, Eq)]
+pub struct FloatSumsAnswer {
+    /// 0, or the refusal's number.
+    pub number: u64,
+    /// Where it was refused.
+    pub place: u64,
+    /// The Allan sum A with its count K.
+    pub allan: Part,
+    /// The modified sum B with its count C.
+    pub modified: Part,
+    /// How many readings had a fraction.
+    pub changed: u64,
+}
+
 /// A fraction in lowest terms.
 #[must_use]
 #[repr(C)]
@@ -255,8 +272,8 @@ extern "C" {
     /// The record with its drift removed, written to the buffer.
     pub fn plg_remove_drift(samples: *const i64, samples_length: usize, buffer: *mut i64, buffer_length: usize) -> CountAnswer;
 
-    /// Samples from doubles, written to the buffer, and both sums of them.
-    pub fn plg_float_sums(readings: *const f64, readings_length: usize, m: u64, buffer: *mut i64, buffer_length: usize) -> SumsAnswer;
+    /// Samples from doubles, written to the buffer, both sums of them, and how many readings were changed.
+    pub fn plg_float_sums(readings: *const f64, readings_length: usize, m: u64, buffer: *mut i64, buffer_length: usize) -> FloatSumsAnswer;
 
     /// The greatest double not above r / 2^20.
     pub fn plg_drawn_number(r: u64) -> DrawnAnswer;

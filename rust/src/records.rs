@@ -2,7 +2,7 @@
 
 use crate::boundary::{self, CountAnswer};
 use crate::refusals::{answered, Refusal};
-use crate::sums::{sums_of, Sums};
+use crate::sums::{part_of, Sum};
 
 /// Drift as P over R, in picoseconds per basic interval squared. With h the whole part of (N-1)/2, three samples decide P, as far apart as the record
 /// allows: the first, one in the middle, and the last or, where N is even, the last but one.
@@ -13,6 +13,18 @@ pub struct Drift {
     pub p: i64,
     /// R = h^2.
     pub r: u64,
+}
+
+/// Both sums of float readings, and how many of the readings were changed.
+#[must_use]
+#[derive(Clone, Copy, Debug, PartialEq, Eq)]
+pub struct FloatSums {
+    /// The Allan sum A with its count K. It is always due.
+    pub allan: Option<Sum>,
+    /// The modified sum B with its count C; none below 3m readings.
+    pub modified: Option<Sum>,
+    /// How many readings had a fraction. Where it is 0, every sample is its reading exactly.
+    pub changed: u64,
 }
 
 pub(crate) fn count_of(answer: CountAnswer) -> Result<usize, Refusal> {
@@ -52,11 +64,22 @@ pub fn remove_drift(samples: &[i64], buffer: &mut [i64]) -> Result<usize, Refusa
     count_of(unsafe { boundary::plg_remove_drift(samples.as_ptr(), samples.len(), buffer.as_mut_ptr(), buffer.len()) })
 }
 
-/// Samples from doubles, N of them, written to the buffer, and both sums of them. The Allan sum is always due; the modified one is none where N is
-/// below 3m.
+/// Samples from doubles, N of them, written to the buffer, both sums of them, and how many readings were changed. A reading becomes the nearest whole
+/// number, on a tie the even one; it is changed where it has a fraction.
 ///
-/// Refuses 5 (m not from 1 to 10,922), 2 (N above 32,768), 1 (N below 2m+1), 6 (buffer below N), then at the lowest index 3 (infinite or beyond the
-/// sample range) or 4 (in range and not whole, or not a number).
-pub fn float_sums(readings: &[f64], m: u64, buffer: &mut [i64]) -> Result<Sums, Refusal> {
-    sums_of(unsafe { boundary::plg_float_sums(readings.as_ptr(), readings.len(), m, buffer.as_mut_ptr(), buffer.len()) })
+/// ```
+/// use ploegelster::float_sums;
+///
+/// let mut samples = [0; 5];
+/// let answer = float_sums(&[0.5, 1.5, -2.5, -0.0, 7.0], 1, &mut samples)?;
+/// assert_eq!((samples, answer.changed), ([0, 2, -2, 0, 7], 3));
+/// # Ok::<(), ploegelster::Refusal>(())
+/// ```
+///
+/// Refuses 5 (m not from 1 to 10,922), 2 (N above 32,768), 1 (N below 2m+1), 6 (buffer below N), then at the lowest index 3 (infinite, or beyond the
+/// sample range before rounding) or 4 (not a number).
+pub fn float_sums(readings: &[f64], m: u64, buffer: &mut [i64]) -> Result<FloatSums, Refusal> {
+    let answer = unsafe { boundary::plg_float_sums(readings.as_ptr(), readings.len(), m, buffer.as_mut_ptr(), buffer.len()) };
+    answered(answer.number, answer.place)?;
+    Ok(FloatSums { allan: part_of(answer.allan), modified: part_of(answer.modified), changed: answer.changed })
 }

@@ -13,8 +13,8 @@ pub enum Ground {
     TooMany = 2,
     /// 3: a value outside its range. The place is the index of the first, else 0.
     OutOfRange = 3,
-    /// 4: a float reading in range that is not whole, or one that is not a number. The place is its index.
-    NotWhole = 4,
+    /// 4: a float reading that is not a number. The place is its index.
+    NotANumber = 4,
     /// 5: a factor outside its range. The place is 0.
     BadFactor = 5,
     /// 6: a lent buffer shorter than the output, or a ring shorter than 3m at a start. The place is 0.
@@ -34,7 +34,7 @@ impl Ground {
             1 => Some(Ground::TooFew),
             2 => Some(Ground::TooMany),
             3 => Some(Ground::OutOfRange),
-            4 => Some(Ground::NotWhole),
+            4 => Some(Ground::NotANumber),
             5 => Some(Ground::BadFactor),
             6 => Some(Ground::NoRoom),
             7 => Some(Ground::BadMeter),
@@ -89,7 +89,7 @@ pub fn refusal_text(number: u64) -> &'static str {
         1 => "too few samples, counts or intervals",
         2 => "too many samples, readings, counts or intervals",
         3 => "a value outside its range",
-        4 => "a reading that is not whole, or not a number",
+        4 => "a reading that is not a number",
         5 => "a factor outside its range",
         6 => "a lent buffer or ring that is too short",
         7 => "a meter that does not hold together",

@@ -39,7 +39,7 @@ fn sum_of(answer: SumAnswer) -> Result<Sum, Refusal> {
 }
 
 /// A part's own number is 0, or 1 where it is not due.
-fn part_of(part: Part) -> Option<Sum> {
+pub(crate) fn part_of(part: Part) -> Option<Sum> {
     (part.number == 0).then(|| Sum { total: part.sum.into(), count: part.count })
 }
 
