@@ -8,7 +8,7 @@ pub(crate) fn refused_at(line: &mut [u8; ROOM], at: usize, by: u64, place: u64) 
     let at = refused(line, at, by);
     match by {
         record::BAD_FILE => placed(line, at, b", at byte ", place),
-        record::OUT_OF_RANGE | record::NOT_WHOLE => placed(line, at, b", at index ", place),
+        record::OUT_OF_RANGE | record::NOT_A_NUMBER => placed(line, at, b", at index ", place),
         _ => at,
     }
 }
@@ -22,7 +22,7 @@ pub(crate) fn refused(line: &mut [u8; ROOM], at: usize, by: u64) -> usize {
         record::TOO_FEW => text(line, at, b"too few samples, counts or intervals"),
         record::TOO_MANY => text(line, at, b"too many samples, readings, counts or intervals"),
         record::OUT_OF_RANGE => text(line, at, b"a value outside its range"),
-        record::NOT_WHOLE => text(line, at, b"a reading that is not whole, or not a number"),
+        record::NOT_A_NUMBER => text(line, at, b"a reading that is not a number"),
         record::BAD_FACTOR => text(line, at, b"a factor outside its range"),
         record::NO_ROOM => text(line, at, b"a lent buffer or ring that is too short"),
         record::BAD_METER => text(line, at, b"a meter that does not hold together"),

@@ -3,6 +3,7 @@ pub mod ListLaws
 pub mod GreatestLaws
 pub mod Halves
 pub mod Parts
+pub mod Rounding
 pub mod Expressions
 pub mod Machine
 pub mod Polynomials

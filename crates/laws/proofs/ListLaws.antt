@@ -1,4 +1,4 @@
--- A list by its entries, the first entry that fails a test, and a buffer that is written from its front.
+-- A list by its entries, the first entry that fails a test, how many pass one, and a buffer that is written from its front.
 use mathlib.Core.Path.{_≡_, refl, sym, ap, ap₂, _∙_}
 use mathlib.Core.Bool.{Bool, true, false, cond, true≢false}
 use mathlib.Core.List.{List, [], _∷_, _++_}
@@ -8,7 +8,7 @@ use native.Mathlib.Numerals.{add-one}
 use native.Mathlib.Omega.{arith}
 use lib.ListN.{length, getD, take, drop, set, length-append, length-drop, List·getD-append}
 use lib.Seq.{drop-cons, drop-length, length-take-le, take-length, take-suc, append-snoc, set-at, getD-append-add, getD-drop}
-use Rattle.laws.specs.Lists.{tabulate, firstFailing, written}
+use Rattle.laws.specs.Lists.{tabulate, firstFailing, howMany, written}
 use Rattle.laws.proofs.Tests.{choice-true, choice-false}
 
 -- ---- a list by its entries
@@ -102,6 +102,21 @@ pub search-ends : {A : Type 0} (test : A → Bool) (xs : List A) (i : ℕ) → i
     firstFailing test xs ≡ length xs
 unfolding firstFailing
 search-ends test xs i e so-far = so-far ∙ rw (e, drop-length xs, add-zero)
+
+-- ---- how many entries pass a test
+
+module _ {A : Type 0} (test : A → Bool) (xs : List A) where
+  -- one step along the list: n were counted before i
+  pub counted-one-more : (z : A) (i n : ℕ) → i < length xs → howMany test xs ≡ n + howMany test (drop i xs) →
+      howMany test xs ≡ n + cond (test (getD xs i z)) 1 0 + howMany test (drop (i + 1) xs)
+  unfolding howMany
+  counted-one-more z i n inside so-far =
+      let rest : howMany test (drop i xs) ≡ cond (test (getD xs i z)) 1 0 + howMany test (drop (suc i) xs) = rw (drop-cons xs i z inside) in
+      rw add-one (omega (arith, so-far, rest))
+
+  pub all-counted : (i n : ℕ) → i ≡ length xs → howMany test xs ≡ n + howMany test (drop i xs) → n ≡ howMany test xs
+  unfolding howMany
+  all-counted i n e so-far = sym (so-far ∙ rw (e, drop-length xs, add-zero))
 
 -- ---- a buffer that is written from its front
 

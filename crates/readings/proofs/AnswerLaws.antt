@@ -9,7 +9,7 @@ use lib.Dec.{leb}
 use lib.IntN.{ℤ}
 use lib.Ieee.{Float}
 use lib.ListN.{length}
-use Rattle.laws.specs.Lists.{written}
+use Rattle.laws.specs.Lists.{howMany, written}
 use Rattle.laws.proofs.Tests.{choice-true, choice-false}
 use Rattle.record.specs.Refusals.{refused, recordRefusal}
 use Rattle.record.specs.Answers.{bufferLeft}
@@ -20,6 +20,7 @@ use Rattle.sums.specs.Answers.{allanDemand, modifiedDemand, allanSumAnswer, mod
 use Rattle.sums.specs.declared.Part.{Part}
 use Rattle.sums.specs.declared.SumAnswer.{SumAnswer}
 use Rattle.sums.proofs.AnswerLaws.{noSum, allan-sum-given, modified-sum-given, modified-sum-refused}
+use Rattle.readings.specs.Readings.{hasFraction}
 use Rattle.readings.specs.Answers.{floatRefusal, floatAnswer}
 use Rattle.readings.specs.declared.FloatSums.{FloatSums}
 use Rattle.readings.proofs.RefusalLaws.{samplesOf, samples-length, samples-sound}
@@ -29,7 +30,7 @@ abbrev pub asPart : SumAnswer → Part
 asPart a = record { number = a .number; sum = a .sum; count = a .count }
 
 abbrev pub noSums : Refusal → FloatSums
-noSums r = record { number = r .number; place = r .place; allan = noPart; modified = noPart }
+noSums r = record { number = r .number; place = r .place; allan = noPart; modified = noPart; changed = 0 }
 
 -- the lent buffer as it is left
 abbrev pub floatBuffer : ℕ → List Float → List ℤ → List ℤ
@@ -83,13 +84,14 @@ module _ (m : ℕ) (xs : List Float) (room : ℕ) where
       let numbered = ne-eqb (floatRefusal m xs room .number) 0 (rw is at some) in
       (noughts ∙ ap noSums is ∙ sym (choice-false _ _ numbered), sym (choice-false _ _ numbered))
 
-  pub call-answered : {refusal : Refusal} {a b : Part} {samples left : List ℤ} (before : List ℤ) → refusal ≡ floatRefusal m xs room → refusal .number ≡ 0 →
-      samples ≡ samplesOf xs → a ≡ asPart (allanSumAnswer m samples) → b ≡ asPart (modifiedSumAnswer m samples) → left ≡ written (samplesOf xs) before →
-      (record { number = 0; place = 0; allan = a; modified = b } ≡ floatAnswer m xs room) × (left ≡ bufferLeft (floatRefusal m xs room) (samplesOf xs) before)
+  pub call-answered : {refusal : Refusal} {a b : Part} {n : ℕ} {samples left : List ℤ} (before : List ℤ) → refusal ≡ floatRefusal m xs room → refusal .number ≡ 0 →
+      samples ≡ samplesOf xs → a ≡ asPart (allanSumAnswer m samples) → b ≡ asPart (modifiedSumAnswer m samples) → n ≡ howMany hasFraction xs →
+      left ≡ written (samplesOf xs) before →
+      (record { number = 0; place = 0; allan = a; modified = b; changed = n } ≡ floatAnswer m xs room) × (left ≡ bufferLeft (floatRefusal m xs room) (samplesOf xs) before)
   unfolding floatAnswer bufferLeft
-  call-answered before is nothing whole allan modified front =
+  call-answered before is nothing whole allan modified changed front =
       let unrefused : floatRefusal m xs room .number ≡ 0 = rw is at nothing in
       let numbered = eq-eqb (floatRefusal m xs room .number) 0 unrefused in
       let allan-is = allan ∙ ap (λ (s : List ℤ). asPart (allanSumAnswer m s)) whole ∙ allan-part unrefused in
       let modified-is = modified ∙ ap (λ (s : List ℤ). asPart (modifiedSumAnswer m s)) whole ∙ modified-part unrefused in
-      ((λ i. record { number = 0; place = 0; allan = allan-is i; modified = modified-is i }) ∙ sym (choice-true _ _ numbered), front ∙ sym (choice-true _ _ numbered))
+      ((λ i. record { number = 0; place = 0; allan = allan-is i; modified = modified-is i; changed = changed i }) ∙ sym (choice-true _ _ numbered), front ∙ sym (choice-true _ _ numbered))

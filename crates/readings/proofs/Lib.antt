@@ -1,5 +1,5 @@
-pub mod FloatTests
+pub mod ReadingLaws
+pub mod BitLaws
 pub mod RefusalLaws
 pub mod AnswerLaws
-pub mod ReadingLaws
 pub mod Unique

@@ -14,6 +14,7 @@ use mir.Syntax.{w64}
 use mir.Val.{toZ, ofZ}
 use Rattle.laws.specs.Lists.{at, firstFailing, written}
 use Rattle.laws.proofs.ListLaws.{first-failing-within, all-pass, fails-there, writtenSoFar, written-one-more, written-whole}
+use Rattle.laws.proofs.Parts.{small-fits}
 use Rattle.laws.proofs.Machine.{read-back}
 use Rattle.record.specs.Refusals.{none, refused, refusedIf, _then_, inRange, sizeRefusal}
 use Rattle.record.specs.declared.Refusal.{Refusal}
@@ -22,7 +23,7 @@ use Rattle.record.proofs.RefusalLaws.{Sized, Sound, refusal-stands, none-gives-
 use Rattle.sums.specs.Answers.{allanDemand}
 use Rattle.readings.specs.Readings.{readingNumber, sampleOf, readingRefusal}
 use Rattle.readings.specs.Answers.{floatRefusal}
-use Rattle.readings.proofs.FloatTests.{sample-bounded, bounded-fits}
+use Rattle.readings.proofs.ReadingLaws.{sample-bounded}
 
 -- ---- 3, 4: the first reading that is no sample
 
@@ -79,7 +80,7 @@ module _ (xs : List Float) where
   sample-stored unrefused before i inside room front is =
       let number = unrefused-sample xs (ap (λ (r : Refusal). r .number) unrefused) i inside in
       written-one-more (samplesOf xs) before i (pos 0) (omega (arith, samples-length)) room front
-      (read-back is (bounded-fits _ (sample-bounded _ number)) ∙ sym (sample-at i))
+      (read-back is (small-fits (sampleOf (getD xs i nan)) (omega (arith, sample-bounded _ number))) ∙ sym (sample-at i))
 
   -- the output at the buffer's front is read back whole
   module _ (before : List ℤ) {left : List ℤ} (front : left ≡ written (samplesOf xs) before) where

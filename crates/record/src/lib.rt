@@ -20,8 +20,8 @@ pub const TOO_FEW: u64 = 1;
 pub const TOO_MANY: u64 = 2;
 // A value outside its range, at the index of the first.
 pub const OUT_OF_RANGE: u64 = 3;
-// A float reading that is not whole, or not a number.
-pub const NOT_WHOLE: u64 = 4;
+// A float reading that is not a number.
+pub const NOT_A_NUMBER: u64 = 4;
 // A factor outside its range.
 pub const BAD_FACTOR: u64 = 5;
 // A lent buffer that is too short.

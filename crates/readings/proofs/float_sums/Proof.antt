@@ -24,13 +24,13 @@ write-samples-requires c κs =
 slice-reshare-prefix-samples : tie.Need-slice-reshare-prefix-samples
 slice-reshare-prefix-samples c =
     let w = c .before in
-    samples-room (w .before .before .before .before .before .before .args .readings .now) _ (w .write-samples .ensures)
+    samples-room (w .before .before .before .before .before .before .args .readings .now) _ (w .write-samples .ensures .1)
 
 slice-aggregate-samples : tie.Need-slice-aggregate-samples
 slice-aggregate-samples c =
     let w = c .before .before in
     let readings = w .before .before .before .before .before .before .args .readings .now in
-    sym (ap length (samples-taken readings _ (w .write-samples .ensures)) ∙ samples-length readings)
+    sym (ap length (samples-taken readings _ (w .write-samples .ensures .1)) ∙ samples-length readings)
 
 allan-sum-requires : tie.Need-allan-sum-requires
 allan-sum-requires c κs = search needs
@@ -51,10 +51,11 @@ returns-2 : tie.Need-returns-2
 returns-2 c =
     let w = c .before .before .before .before .before .before in
     let e = w .before .before in
-    call-answered _ _ _ _ (e .before .before .float-refusal .ensures) (e .if1 .left) (samples-taken (e .before .before .before .before .args .readings .now) _ (w .write-samples .ensures))
+    call-answered _ _ _ _ (e .before .before .float-refusal .ensures) (e .if1 .left) (samples-taken (e .before .before .before .before .args .readings .now) _ (w .write-samples .ensures .1))
     (c .before .before .part-of .ensures ∙ ap asPart (c .before .before .before .allan-sum .ensures))
     (c .part-of2 .ensures ∙ ap asPart (c .before .modified-sum .ensures))
-    (w .write-samples .ensures)
+    (w .write-samples .ensures .0)
+    (w .write-samples .ensures .1)
 
 pub float-sums-spec : {M : Type 1} → statement M
 float-sums-spec =

@@ -1,32 +1,28 @@
 -- `readings::reading::number_of` meets its contract.
-use mathlib.Core.Path.{sym}
-use Rattle.readings.proofs.FloatTests.{Within, below-low-end-is-three, above-high-end-is-three, differing-is-four, tested-within, from-lowest, below-highest, whole-part-casts, equal-is-sample, unequal-is-four}
+use mathlib.Core.Path.{sym, subst}
+use native.Mathlib.Omega.{arith}
+use lib.Dec.{T}
+use lib.Ieee.{binary64, fits}
+use Rattle.readings.proofs.ReadingLaws.{differing-is-four, same-is-number}
+use Rattle.readings.proofs.BitLaws.{bits-beyond, bits-within}
 use Rattle.readings.proofs.reading.number_of.Statement.{statement}
 use Rattle.readings.proofs.reading.number_of.Tie as tie
 
+-- the format holds what an `f64` has
+held : (c : tie.Start) → T (fits binary64 (c .args .x))
+held c = subst T (sym (c .good .0 .1)) tt
+
 returns : tie.Need-returns
-returns c = sym (below-low-end-is-three _ (c .if1 .taken))
+returns c = sym (differing-is-four _ (c .if1 .taken))
+
+float-to-bits-if2 : tie.Need-float-to-bits-if2
+float-to-bits-if2 c = same-is-number _ (c .if1 .left)
 
 returns-2 : tie.Need-returns-2
-returns-2 c = sym (above-high-end-is-three _ (c .if2 .taken))
+returns-2 c = sym (bits-beyond _ (held (c .before .before)) (same-is-number _ (c .before .if1 .left)) (omega arith))
 
 returns-3 : tie.Need-returns-3
-returns-3 c = sym (differing-is-four _ (c .if3 .taken))
-
-in-range : (c : tie.Else3) → Within (c .before .before .before .args .x)
-in-range c = tested-within _ (c .before .before .if1 .left) (c .before .if2 .left) (c .if3 .left)
-
-truncating-f64-to-i64-requires : tie.Need-truncating-f64-to-i64-requires
-truncating-f64-to-i64-requires c κs = (from-lowest _ (in-range c), below-highest _ (in-range c))
-
-int-to-float-if4 : tie.Need-int-to-float-if4
-int-to-float-if4 c = whole-part-casts _ (in-range (c .before .before)) (c .before .truncating-f64-to-i64 .ensures)
-
-returns-4 : tie.Need-returns-4
-returns-4 c = sym (equal-is-sample _ (in-range (c .before .before .before)) (c .before .before .truncating-f64-to-i64 .ensures) (c .if4 .taken))
-
-returns-5 : tie.Need-returns-5
-returns-5 c = sym (unequal-is-four _ (in-range (c .before .before .before)) (c .before .before .truncating-f64-to-i64 .ensures) (c .if4 .left))
+returns-3 c = sym (bits-within _ (held (c .before .before)) (omega arith))
 
 pub number-of-spec : {M : Type 1} → statement M
-number-of-spec = tie.close (tie.spec returns returns-2 returns-3 truncating-f64-to-i64-requires int-to-float-if4 returns-4 returns-5)
+number-of-spec = tie.close (tie.spec returns float-to-bits-if2 returns-2 returns-3)
