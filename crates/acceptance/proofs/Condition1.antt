@@ -256,7 +256,7 @@ remove-drift-past κs args z w is = rw (is .0, is .1) (past-the-count _ _ _ _ (w
 
 pub float-sums-settled : Settled 2 float-sums-kinds.ps float-sums-kinds.r float-sums.Post
     (λ κs args z w. let buffer = now (args .1 .1 .0) in let left = w .1 .1 .0 in
-    (Refused (z .number) → PartsNought (z .allan) (z .modified) × (left ≡ buffer))
+    (Refused (z .number) → PartsNought (z .allan) (z .modified) × (z .changed ≡ 0) × (left ≡ buffer))
     × PartsApart (z .allan) (z .modified))
 float-sums-settled = (
   float-sums-single,

@@ -15,6 +15,7 @@ use lib.IntN.{ℤ, pos, negsuc, negℤ, _+ℤ_, _-ℤ_, _*ℤ_}
 use lib.ListN.{length, getD, take}
 use Rattle.laws.specs.Greatest.{Greatest}
 use Rattle.laws.specs.Lists.{at}
+use Rattle.laws.specs.Nearest.{withSign}
 use Rattle.laws.specs.Sums.{sumℤ}
 use Rattle.laws.specs.Single.{Always}
 use Rattle.wide.specs.Wide.{value}
@@ -43,7 +44,7 @@ use Rattle.drift.proofs.drift_figure.Reads as drift-figure
 use Rattle.drift.proofs.drift_figure.Kinds as drift-figure-kinds
 use Rattle.drift.proofs.remove_drift.Reads as remove-drift
 use Rattle.drift.proofs.remove_drift.Kinds as remove-drift-kinds
-use Rattle.readings.specs.Readings.{Exactly}
+use Rattle.readings.specs.Readings.{Nearest}
 use Rattle.readings.proofs.float_sums.Reads as float-sums
 use Rattle.readings.proofs.float_sums.Kinds as float-sums-kinds
 use Rattle.plot.specs.Drawn.{plusZero, GreatestDouble}
@@ -83,7 +84,7 @@ use Rattle.phr.proofs.write_file.Reads as write-file
 use Rattle.phr.proofs.write_file.Kinds as write-file-kinds
 use Rattle.acceptance.specs.Figures.{sumIs, fractionIs, squares}
 use Rattle.acceptance.specs.Grounds
-use Rattle.acceptance.specs.Promises.{SumOf, PartsOf, FractionOf, BackAndForth, DotOf, ToldAs, TypeByTable, NoiseOf, HalfOf, BarsOf, DriftRemoved, ConstantDrift, ReadsBack}
+use Rattle.acceptance.specs.Promises.{SumOf, PartsOf, Changed, FractionOf, BackAndForth, DotOf, ToldAs, TypeByTable, NoiseOf, HalfOf, BarsOf, DriftRemoved, ConstantDrift, ReadsBack}
 use Rattle.acceptance.proofs.Grounding.{answered-none}
 use Rattle.acceptance.proofs.RecordGrounds.{record-agrees, multiple-agrees}
 use Rattle.acceptance.proofs.FigureGrounds.{fraction-agrees, deviation-agrees, dotted-none}
@@ -93,7 +94,7 @@ use Rattle.acceptance.proofs.TypeGrounds.{type-agrees, bars-agree, alph
 use Rattle.acceptance.proofs.RecordTypeGrounds.{record-type-agrees}
 use Rattle.acceptance.proofs.FileGrounds.{writing-agrees, reading-agrees}
 use Rattle.acceptance.proofs.Grounds.{allan-sum-grounds, modified-sum-grounds, allan-fraction-grounds, time-fraction-grounds, allan-deviation-grounds, time-deviation-grounds, phase-from-frequency-grounds, frequency-from-phase-grounds, drift-figure-grounds, remove-drift-grounds, float-sums-grounds, drawn-number-grounds, allan-dot-grounds, time-dot-grounds, noise-type-grounds, noise-of-record-grounds, plg-noise-type-grounds, plg-noise-of-record-grounds, bars-grounds, plg-bars-grounds, read-file-grounds, write-file-grounds}
-use Rattle.acceptance.proofs.PromiseLaws.{allan-sum-of, modified-sum-of, phases-of, differences-of, differences-left, back-and-forth, square-of-half, drift-of, divisor-some, result-of, drift-removed, one-result, same-slope, constant-slope, line-left, float-sums-of, float-samples-of, reads-files-alone, reads-every-file, count-of, output-left, file-left, one-value-unrefused, written-proper, reads-back, drawn-of, dot-told, allan-dot-of, time-dot-of, allan-fraction-of, time-fraction-of, allan-deviation-of, time-deviation-of, allan-deviation-of-record, time-deviation-of-record, type-of, noise-of, bars-of, half-below-deviation, low-above-nought}
+use Rattle.acceptance.proofs.PromiseLaws.{allan-sum-of, modified-sum-of, phases-of, differences-of, differences-left, back-and-forth, square-of-half, drift-of, divisor-some, result-of, drift-removed, one-result, same-slope, constant-slope, line-left, float-sums-of, one-nearest, whole-samples-of, reads-files-alone, reads-every-file, count-of, output-left, file-left, one-value-unrefused, written-proper, reads-back, drawn-of, dot-told, allan-dot-of, time-dot-of, allan-fraction-of, time-fraction-of, allan-deviation-of, time-deviation-of, allan-deviation-of-record, time-deviation-of-record, type-of, noise-of, bars-of, half-below-deviation, low-above-nought}
 use Rattle.acceptance.proofs.Figures.{starred-figures}
 
 -- ---- the published sums: x the record, N its length, m the factor
@@ -188,21 +189,31 @@ phase-to-frequency-to-phase κs args z w is answered κs′ args′ z′ w′ is
 
 -- ---- float readings
 
--- Each sample has its reading's exact value, and both sums are the published ones of the samples that were written.
+-- Each sample is nearest to its reading, those are counted that are not their readings exactly, and both sums are the published ones of the samples
+-- that were written.
 pub float-sums-published : Always 2 float-sums-kinds.ps float-sums-kinds.r float-sums.Post
     (λ κs args z w. let xs = now (args .0) in let m = args .1 .0 in let left = w .1 .1 .0 in
-    z .number ≡ 0 → ((k : ℕ) → k < length xs → Exactly (getD xs k nan) (at left k)) × PartsOf m (take (length xs) left) (z .allan) (z .modified))
+    z .number ≡ 0 → ((k : ℕ) → k < length xs → Nearest (getD xs k nan) (at left k)) × Changed xs (take (length xs) left) (z .changed)
+    × PartsOf m (take (length xs) left) (z .allan) (z .modified))
 float-sums-published κs args z w is answered =
     let nothing = answered-none (readings-agree _ _ _) (float-sums-grounds κs args z w is) answered in
     rw (is .0, is .1) (float-sums-of (args .1 .0) (now (args .0)) (now (args .1 .1 .0)) nothing)
 
+-- One number is nearest to a reading.
+pub float-samples-alone : Always 2 float-sums-kinds.ps float-sums-kinds.r float-sums.Post
+    (λ κs args z w. let xs = now (args .0) in let left = w .1 .1 .0 in
+    z .number ≡ 0 → (k : ℕ) → k < length xs → (y : ℤ) → Nearest (getD xs k nan) y → y ≡ at left k)
+float-samples-alone κs args z w is answered =
+    let nothing = answered-none (readings-agree _ _ _) (float-sums-grounds κs args z w is) answered in
+    rw (is .1) (one-nearest (args .1 .0) (now (args .0)) (now (args .1 .1 .0)) nothing)
+
 -- By its sign and its size: a whole reading of size n becomes n, or -n.
 pub float-samples-published : Always 2 float-sums-kinds.ps float-sums-kinds.r float-sums.Post
     (λ κs args z w. let xs = now (args .0) in let left = w .1 .1 .0 in
-    z .number ≡ 0 → (k : ℕ) → k < length xs → (s : Bool) (n : ℕ) → HasValue (getD xs k nan) s n 1 → at left k ≡ cond s (negℤ (pos n)) (pos n))
+    z .number ≡ 0 → (k : ℕ) → k < length xs → (s : Bool) (n : ℕ) → HasValue (getD xs k nan) s n 1 → at left k ≡ withSign s n)
 float-samples-published κs args z w is answered =
     let nothing = answered-none (readings-agree _ _ _) (float-sums-grounds κs args z w is) answered in
-    rw (is .1) (float-samples-of (args .1 .0) (now (args .0)) (now (args .1 .1 .0)) nothing)
+    rw (is .1) (whole-samples-of (args .1 .0) (now (args .0)) (now (args .1 .1 .0)) nothing)
 
 -- ---- drawn numbers and dots
 

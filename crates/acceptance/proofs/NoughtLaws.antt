@@ -9,7 +9,7 @@ use lib.Ieee.{Float}
 use lib.IntN.{ℤ, pos, negsuc}
 use lib.ListN.{length, getD, set}
 use lib.Seq.{getD-set-same, getD-set-other}
-use Rattle.laws.specs.Lists.{at, written}
+use Rattle.laws.specs.Lists.{at, howMany, written}
 use borrow.Author.Tests.{ne-eqb, eqb-true, eqb-false}
 use Rattle.laws.proofs.ListLaws.{written-past}
 use Rattle.record.specs.Answers.{countAnswer, bufferLeft}
@@ -21,6 +21,7 @@ use Rattle.sums.specs.Published.{allanSum, allanCount, modifiedSum, modifiedCou
 use Rattle.sums.specs.Answers.{sumAnswer, partOf, noPart}
 use Rattle.drift.specs.Drift.{driftRefusal, driftAnswer}
 use Rattle.readings.proofs.RefusalLaws.{samplesOf, samples-length}
+use Rattle.readings.specs.Readings.{hasFraction}
 use Rattle.readings.specs.Answers.{floatRefusal, floatAnswer}
 use Rattle.readings.proofs.AnswerLaws.{floatBuffer}
 use Rattle.readings.specs.declared.FloatSums.{FloatSums}
@@ -100,10 +101,10 @@ part-noughts true s count some = absurd (some refl)
 part-noughts false s count some = (refl, refl)
 
 module _ (m : ℕ) (xs : List Float) (buffer : List ℤ) where
-  pub float-noughts : Refused (floatAnswer m xs (length buffer) .number) → PartsNought (floatAnswer m xs (length buffer) .allan) (floatAnswer m xs (length buffer) .modified) × (floatBuffer m xs buffer ≡ buffer)
+  pub float-noughts : Refused (floatAnswer m xs (length buffer) .number) → PartsNought (floatAnswer m xs (length buffer) .allan) (floatAnswer m xs (length buffer) .modified) × (floatAnswer m xs (length buffer) .changed ≡ 0) × (floatBuffer m xs buffer ≡ buffer)
   unfolding floatAnswer bufferLeft noPart
   float-noughts some =
-      rw (by-refusal (floatRefusal m xs (length buffer)) (λ nothing. rw nothing) some) (((refl, (refl, refl)), (refl, (refl, refl))), refl)
+      rw (by-refusal (floatRefusal m xs (length buffer)) (λ nothing. rw nothing) some) (((refl, (refl, refl)), (refl, (refl, refl))), refl, refl)
 
   -- a 1 for one part alone
   pub float-part-noughts : PartsApart (floatAnswer m xs (length buffer) .allan) (floatAnswer m xs (length buffer) .modified)
@@ -121,8 +122,9 @@ module _ (m : ℕ) (xs : List Float) (buffer : List ℤ) where
             place = 0;
             allan = partOf true (allanSum m (samplesOf xs)) (allanCount m (samplesOf xs));
             modified = partOf (leb (3 * m) (length xs)) (modifiedSum m (samplesOf xs)) (modifiedCount m (samplesOf xs));
+            changed = howMany hasFraction xs;
           })
-          (record { number = r .number; place = r .place; allan = noPart; modified = noPart })
+          (record { number = r .number; place = r .place; allan = noPart; modified = noPart; changed = 0 })
 
       by-number : (t : Bool) → PartsApart (answer t .allan) (answer t .modified)
       by-number true = (part-noughts _ _ _, part-noughts _ _ _)

@@ -3,25 +3,28 @@ use mathlib.Core.Path.{_≡_, refl, sym, ap, _∙_, subst}
 use mathlib.Core.Bool.{Bool, true, false, cond}
 use mathlib.Core.List.{List, [], _∷_}
 use mathlib.Core.Logic.{inl, inr}
-use Prim.Native.Nat.{ℕ, _+_, _-_, _*_, _/_, _%_, _^_, _≤_, _<_, _∣_}
-use native.Mathlib.Nat.{eq-of-mul-eq-mul-right, mul-le-mul}
+use Prim.Native.Nat.{ℕ, suc, _+_, _-_, _*_, _/_, _%_, _^_, _≤_, _<_, _∣_}
+use native.Mathlib.Nat.{zero-add, mul-one, mul-le-mul}
+use native.Mathlib.Numerals.{one-add}
 use native.Mathlib.Omega.{arith}
 use borrow.Author.Tests.{le-leb, lt-leb, ltb-false}
 use lib.Dec.{T, leb}
-use lib.Ieee.{Float, nan, inf, fin, down}
+use lib.Ieee.{Float, nan}
 use lib.Ieee.Exact.{HasValue}
-use lib.Ieee.Fits.{down-pos}
+use lib.Ieee.Nearest.{closest}
 use lib.Ieee.Positive.{positive}
 use lib.IntN.{ℤ, pos, negℤ, natAbs, _+ℤ_, _-ℤ_, _*ℤ_}
 use lib.ListN.{length, getD, take}
 use lib.Seq.{take-at}
 use lib.Signed.{_≤ℤ_, _<ℤ_}
 use Rattle.laws.specs.Greatest.{Greatest}
-use Rattle.laws.specs.Lists.{at, written}
+use Rattle.laws.specs.Lists.{at, howMany, written}
+use Rattle.laws.specs.Nearest.{withSign}
 use Rattle.laws.specs.Sums.{sumℤ}
 use Rattle.laws.proofs.Expressions.{Expression, $_, #_, _⊕_, _⊖_, _⊗_, sound, equation, at-most, less-than}
 use Rattle.laws.proofs.ListLaws.{tabulate-entry, written-front}
 use Rattle.laws.proofs.Parts.{equal-by-parts, parts-of-equal}
+use Rattle.laws.proofs.Rounding.{closest-whole}
 use Rattle.wide.specs.Wide.{value, halves}
 use Rattle.wide.proofs.WideLaws.{value-of-halves}
 use Rattle.record.specs.Answers.{countAnswer, bufferLeft}
@@ -48,10 +51,10 @@ use Rattle.variances.proofs.FractionLaws.{lowestTerms, lowest-same-value, lowes
 use Rattle.variances.proofs.DeviationLaws.{deviation-is-greatest}
 use Rattle.variances.proofs.AnswerLaws.{deviationRefusal, givenDeviation, largeRefusal, allan-fraction-given, time-fraction-given, allan-deviation-given, time-deviation-given}
 use Rattle.variances.proofs.Bounds.{allan-allowed, allan-deviation-within, modified-allowed, time-deviation-within}
-use Rattle.readings.specs.Readings.{Exactly}
+use Rattle.readings.specs.Readings.{readingNumber, sampleOf, hasFraction, Nearest}
 use Rattle.readings.specs.Answers.{floatRefusal, floatAnswer}
 use Rattle.readings.proofs.AnswerLaws.{floatBuffer}
-use Rattle.readings.proofs.ReadingLaws.{sample-exact}
+use Rattle.readings.proofs.ReadingLaws.{sample-by-value, sample-nearest, nearest-is-sample, fraction-not-exact, sample-exact}
 use Rattle.readings.proofs.RefusalLaws.{samplesOf, samples-length, sample-at, samples-taken, unrefused-sample, unrefused-readings, unrefused-size}
 use Rattle.meter.proofs.Running.{publishedReport}
 use Rattle.phr.specs.File.{fileOf, mostValues, valueInRange, Proper, IsFile, AreBytes}
@@ -79,7 +82,7 @@ use Rattle.ploegelster.specs.Boundary.{dotKind, toldDot}
 use Rattle.acceptance.specs.Grounds
 use Rattle.acceptance.specs.Grounds.{NoRow, OfDrawn, OfBars}
 use Rattle.acceptance.specs.Promises
-use Rattle.acceptance.specs.Promises.{SumOf, PartsOf, FractionOf, BackAndForth, DotOf, ToldAs, TypeByTable, NoiseOf, Kappa, HalfOf, BarsOf, DriftRemoved, ConstantDrift, ReadsBack}
+use Rattle.acceptance.specs.Promises.{SumOf, PartsOf, Changed, FractionOf, BackAndForth, DotOf, ToldAs, TypeByTable, NoiseOf, Kappa, HalfOf, BarsOf, DriftRemoved, ConstantDrift, ReadsBack}
 
 -- ---- sums, of a record that is not refused
 
@@ -279,6 +282,17 @@ module _ (a b c : ℤ) where
 
 -- ---- float readings
 
+-- the samples of readings in range: as many are changed as have a fraction
+changed-of : (xs : List Float) → ((k : ℕ) → k < length xs → readingNumber (getD xs k nan) ≡ 0) → Changed xs (samplesOf xs) (howMany hasFraction xs)
+unfolding howMany
+changed-of [] sound = Promises.no-reading
+changed-of (x ∷ xs) sound = by-fraction (hasFraction x) refl (changed-of xs (λ k inside. sound (suc k) (omega arith)))
+  where
+    by-fraction : (t : Bool) → hasFraction x ≡ t → Changed xs (samplesOf xs) (howMany hasFraction xs) →
+        Changed (x ∷ xs) (samplesOf (x ∷ xs)) (cond t 1 0 + howMany hasFraction xs)
+    by-fraction true t rest = rw (one-add (howMany hasFraction xs)) (Promises.changed (fraction-not-exact x t (sampleOf x)) rest)
+    by-fraction false t rest = rw (zero-add (howMany hasFraction xs)) (Promises.kept (sample-exact x (sound 0 (omega arith)) t) rest)
+
 module _ (m : ℕ) (xs : List Float) (buffer : List ℤ) (nothing : floatRefusal m xs (length buffer) ≡ none) where
   abbrev samples : List ℤ
   samples = floatBuffer m xs buffer
@@ -296,27 +310,29 @@ module _ (m : ℕ) (xs : List Float) (buffer : List ℤ) (nothing : floatRefusal
       le-leb (2 * m + 1) (length (samplesOf xs)) (omega (arith, samples-length xs, unrefused-size m xs (length buffer) readings-unrefused .enough)) in
       rw (nothing, ← due, ← samples-length xs) (parts-of m (samplesOf xs))
 
-  pub float-sums-of : ((k : ℕ) → k < length xs → Exactly (getD xs k nan) (at samples k))
+  all-in-range : (k : ℕ) → k < length xs → readingNumber (getD xs k nan) ≡ 0
+  all-in-range = unrefused-sample xs (unrefused-readings m xs (length buffer) readings-unrefused)
+
+  float-changed : Changed xs (samplesOf xs) (floatAnswer m xs (length buffer) .changed)
+  unfolding floatAnswer
+  float-changed = rw nothing (changed-of xs all-in-range)
+
+  sample-left : (k : ℕ) → k < length xs → at samples k ≡ sampleOf (getD xs k nan)
+  sample-left k inside = output-entry nothing (length xs) (samplesOf xs) buffer k (pos 0) (omega (arith, samples-length xs)) ∙ sample-at xs k
+
+  pub float-sums-of : ((k : ℕ) → k < length xs → Nearest (getD xs k nan) (at samples k))
+      × Changed xs (take (length xs) samples) (floatAnswer m xs (length buffer) .changed)
       × PartsOf m (take (length xs) samples) (floatAnswer m xs (length buffer) .allan) (floatAnswer m xs (length buffer) .modified)
-  float-sums-of = (
-    λ k inside.
-        rw (output-entry nothing (length xs) (samplesOf xs) buffer k (pos 0) (omega (arith, samples-length xs)) ∙ sample-at xs k)
-        (sample-exact _ (unrefused-sample xs (unrefused-readings m xs (length buffer) readings-unrefused) k inside)),
-    rw taken float-parts,
-  )
+  float-sums-of = (λ k inside. rw (sample-left k inside) (sample-nearest _ (all-in-range k inside)), rw taken float-changed, rw taken float-parts)
 
--- a reading's sample by its sign and its size
-sample-by-value : (x : Float) (z : ℤ) (s : Bool) (n : ℕ) → Exactly x z → HasValue x s n 1 → z ≡ cond s (negℤ (pos n)) (pos n)
-sample-by-value nan z s n exact value = absurd value
-sample-by-value (inf t) z s n exact value = absurd value
-sample-by-value (fin t m e) z s n exact value =
-    let same : natAbs z ≡ n = eq-of-mul-eq-mul-right (down e) (down-pos e) (natAbs z) n (sym (exact .value .1) ∙ value .1) in
-    exact .signed ∙ rw (sym (exact .value .0) ∙ value .0, same) refl
+  pub one-nearest : (k : ℕ) → k < length xs → (y : ℤ) → Nearest (getD xs k nan) y → y ≡ at samples k
+  one-nearest k inside y nearest = nearest-is-sample _ y nearest ∙ sym (sample-left k inside)
 
-module _ (m : ℕ) (xs : List Float) (buffer : List ℤ) (nothing : floatRefusal m xs (length buffer) ≡ none) where
-  pub float-samples-of : (k : ℕ) → k < length xs → (s : Bool) (n : ℕ) → HasValue (getD xs k nan) s n 1 →
-      at (floatBuffer m xs buffer) k ≡ cond s (negℤ (pos n)) (pos n)
-  float-samples-of k inside s n = sample-by-value _ _ s n (float-sums-of m xs buffer nothing .0 k inside)
+  -- a whole reading is its own nearest number
+  pub whole-samples-of : (k : ℕ) → k < length xs → (s : Bool) (n : ℕ) → HasValue (getD xs k nan) s n 1 → at samples k ≡ withSign s n
+  whole-samples-of k inside s n value =
+      sample-left k inside ∙ sample-by-value s n 1 (omega arith) (getD xs k nan) value
+      ∙ ap (withSign s) (sym (mul-one (closest n 1)) ∙ closest-whole n 1 (omega arith) (omega arith))
 
 -- ---- the running meter
 

@@ -3,10 +3,10 @@ use mathlib.Core.Path.{_≡_, refl, ap, _∙_}
 use mathlib.Core.Bool.{Bool, true, false}
 use mathlib.Core.List.{List}
 use mathlib.Core.Logic.{_⊎_, inl, inr}
-use Prim.Native.Nat.{ℕ, _+_, _*_, _%_, _^_, _<_}
+use Prim.Native.Nat.{ℕ, _+_, _*_, _^_, _<_}
 use native.Mathlib.Omega.{arith}
-use borrow.Author.Tests.{ltb-true, ltb-false, eqb-true, eqb-false, ne-eqb}
-use lib.Dec.{ltb, eqb}
+use borrow.Author.Tests.{ltb-true, ltb-false, eqb-false, ne-eqb}
+use lib.Dec.{ltb}
 use lib.Ieee.{Float, nan, inf, fin, up, down}
 use lib.Ieee.Fits.{down-pos}
 use lib.ListN.{length, getD}
@@ -17,10 +17,10 @@ use Rattle.sums.specs.Answers.{allanDemand}
 use Rattle.readings.specs.Readings.{readingNumber, readingRefusal}
 use Rattle.readings.specs.Answers.{floatRefusal, floatAnswer}
 use Rattle.readings.specs.declared.FloatSums.{FloatSums}
-use Rattle.readings.proofs.ReadingLaws.{infinite-is-three, not-a-number-is-four, beyond-the-range, whole-in-range, fraction-in-range}
+use Rattle.readings.proofs.ReadingLaws.{infinite-is-three, not-a-number-is-four, beyond-the-range, within-the-range}
 use Rattle.readings.proofs.RefusalLaws.{isSample, no-sample-at, no-room, readings-decide}
 use Rattle.acceptance.specs.Grounds
-use Rattle.acceptance.specs.Grounds.{NoRow, Grounded, First, OfSize, TooFar, NotWhole, NoSample, OfReadings}
+use Rattle.acceptance.specs.Grounds.{NoRow, Grounded, First, OfSize, TooFar, NotANumber, NoSample, OfReadings}
 use Rattle.acceptance.proofs.Grounding
 use Rattle.acceptance.proofs.Grounding.{Decided, Stands, Agrees, decide, decide-after, decided-by, stands-first, rowless-none, none-rowless, grounded-answer}
 use Rattle.acceptance.proofs.RecordGrounds.{first-is, first-there, size-agrees}
@@ -29,28 +29,22 @@ use Rattle.acceptance.proofs.RecordGrounds.{first-is, first-there, size
 
 far-is-three : {x : Float} → TooFar x → readingNumber x ≡ 3
 far-is-three (Grounds.infinite {s} e) = ap readingNumber e ∙ infinite-is-three s
-far-is-three {x} (Grounds.beyond s a c some value above) = beyond-the-range x s a c some value above
+far-is-three {x} (Grounds.beyond s a c some value above) = beyond-the-range s a c some x value above
 
-not-whole-is-four : {x : Float} → NotWhole x → readingNumber x ≡ 4
-not-whole-is-four (Grounds.no-number e) = ap readingNumber e ∙ not-a-number-is-four
-not-whole-is-four {x} (Grounds.fraction s a c some value within rest) = fraction-in-range x s a c some value within rest
+no-number-is-four : {x : Float} → NotANumber x → readingNumber x ≡ 4
+no-number-is-four e = ap readingNumber e ∙ not-a-number-is-four
 
--- a reading is a sample, or too far, or not whole
-kinds : (x : Float) → (readingNumber x ≡ 0 → ⊥) → TooFar x ⊎ NotWhole x
-kinds nan other = inr (Grounds.no-number refl)
+-- a reading becomes a sample, or is too far, or is not a number
+kinds : (x : Float) → (readingNumber x ≡ 0 → ⊥) → TooFar x ⊎ NotANumber x
+kinds nan other = inr refl
 kinds (inf s) other = inl (Grounds.infinite refl)
 kinds (fin s m e) other = by-range (ltb (2 ^ 40 * down e) (m * up e)) refl
   where
-    by-rest : (t : Bool) → eqb (m * up e % down e) 0 ≡ t → ltb (2 ^ 40 * down e) (m * up e) ≡ false → TooFar (fin s m e) ⊎ NotWhole (fin s m e)
-    by-rest true t within =
-        absurd (other (whole-in-range (fin s m e) s (m * up e) (down e) (down-pos e) (refl, refl) (ltb-false _ _ within) (eqb-true _ 0 t)))
-    by-rest false t within = inr (Grounds.fraction s (m * up e) (down e) (down-pos e) (refl, refl) (ltb-false _ _ within) (eqb-false _ 0 t))
-
-    by-range : (t : Bool) → ltb (2 ^ 40 * down e) (m * up e) ≡ t → TooFar (fin s m e) ⊎ NotWhole (fin s m e)
+    by-range : (t : Bool) → ltb (2 ^ 40 * down e) (m * up e) ≡ t → TooFar (fin s m e) ⊎ NotANumber (fin s m e)
     by-range true t = inl (Grounds.beyond s (m * up e) (down e) (down-pos e) (refl, refl) (ltb-true _ _ t))
-    by-range false t = by-rest _ refl t
+    by-range false t = absurd (other (within-the-range s (m * up e) (down e) (down-pos e) (fin s m e) (refl, refl) (ltb-false _ _ t)))
 
--- ---- 3, 4: the first reading that is no sample
+-- ---- 3, 4: the first reading that becomes no sample
 
 module _ (xs : List Float) where
   no-sample : (k : ℕ) → k < length xs → isSample (getD xs k nan) ≡ false → NoSample xs k
@@ -58,7 +52,7 @@ module _ (xs : List Float) where
 
   no-sample-fails : (k : ℕ) → k < length xs → NoSample xs k → isSample (getD xs k nan) ≡ false
   no-sample-fails k inside (inl far) = ne-eqb (readingNumber (getD xs k nan)) 0 (λ e. omega (arith, far-is-three far))
-  no-sample-fails k inside (inr not-whole) = ne-eqb (readingNumber (getD xs k nan)) 0 (λ e. omega (arith, not-whole-is-four not-whole))
+  no-sample-fails k inside (inr no-number) = ne-eqb (readingNumber (getD xs k nan)) 0 (λ e. omega (arith, no-number-is-four no-number))
 
   reading-refused : {i number : ℕ} → First (length xs) (NoSample xs) i → readingNumber (getD xs i nan) ≡ number → readingRefusal xs ≡ refused number i
   reading-refused {i} first is =
@@ -66,7 +60,7 @@ module _ (xs : List Float) where
 
   module _ {Row : ℕ → ℕ → Type 0}
       (far : (i : ℕ) → First (length xs) (NoSample xs) i → TooFar (getD xs i nan) → Row 3 i)
-      (not-whole : (i : ℕ) → First (length xs) (NoSample xs) i → NotWhole (getD xs i nan) → Row 4 i) where
+      (no-number : (i : ℕ) → First (length xs) (NoSample xs) i → NotANumber (getD xs i nan) → Row 4 i) where
     readings-decided : Decided Row (readingRefusal xs)
     unfolding readingRefusal
     readings-decided = by-test (ltb place (length xs)) refl
@@ -76,7 +70,7 @@ module _ (xs : List Float) where
 
         by-kind : First (length xs) (NoSample xs) place → NoSample xs place → Decided Row (refused (readingNumber (getD xs place nan)) place)
         by-kind first (inl is) = rw (far-is-three is) (Grounding.something (λ e. omega arith) (far place first is))
-        by-kind first (inr is) = rw (not-whole-is-four is) (Grounding.something (λ e. omega arith) (not-whole place first is))
+        by-kind first (inr is) = rw (no-number-is-four is) (Grounding.something (λ e. omega arith) (no-number place first is))
 
         by-test : (t : Bool) → ltb place (length xs) ≡ t → Decided Row (refusedIf t (readingNumber (getD xs place nan)) place)
         by-test true t = let first = first-there isSample nan xs refl no-sample no-sample-fails t in by-kind first (first .bad)
@@ -97,8 +91,8 @@ module _ (m : ℕ) (xs : List Float) (room : ℕ) where
   readings-stand (Grounds.no-room rowless h) = (λ e. omega arith, no-room m xs room (size-none rowless) h)
   readings-stand (Grounds.far rowless enough first is) =
       (λ e. omega arith, readings-decide m xs room (size-none rowless) enough ∙ reading-refused xs first (far-is-three is))
-  readings-stand (Grounds.not-whole rowless enough first is) =
-      (λ e. omega arith, readings-decide m xs room (size-none rowless) enough ∙ reading-refused xs first (not-whole-is-four is))
+  readings-stand (Grounds.no-number rowless enough first is) =
+      (λ e. omega arith, readings-decide m xs room (size-none rowless) enough ∙ reading-refused xs first (no-number-is-four is))
 
   pub readings-agree : Agrees (OfReadings m xs room) (floatRefusal m xs room)
   unfolding floatRefusal
@@ -107,7 +101,7 @@ module _ (m : ℕ) (xs : List Float) (room : ℕ) where
     decided = decide-after _ _ (decided-by (λ n p. Grounds.size) (sized .decided))
         (λ clear. let rowless = none-rowless sized (rw clear) in
         decide _ 6 0 (omega arith) (λ t. Grounds.no-room rowless (ltb-true room (length xs) t)) _
-        (λ f. let enough = ltb-false room (length xs) f in readings-decided xs (λ i. Grounds.far rowless enough) (λ i. Grounds.not-whole rowless enough)));
+        (λ f. let enough = ltb-false room (length xs) f in readings-decided xs (λ i. Grounds.far rowless enough) (λ i. Grounds.no-number rowless enough)));
   }
 
   pub readings-grounded : Grounded (OfReadings m xs room) (floatAnswer m xs room .number) (floatAnswer m xs room .place)

@@ -126,19 +126,18 @@ pub data OfRemoval (xs : List ℤ) (room : ℕ) : ℕ → ℕ → Type 0 where
 
 -- ---- float readings: a / c is the size of a reading's exact value
 
--- a reading that is infinite or beyond the sample range, fraction or not
+-- a reading that is infinite, or beyond the sample range before it is rounded
 pub data TooFar (x : Float) : Type 0 where
   infinite : {s : Bool} → x ≡ inf s → TooFar x
   beyond : (s : Bool) (a c : ℕ) → 0 < c → HasValue x s a c → 2 ^ 40 * c < a → TooFar x
 
--- any other that is no sample: what is not a number, or a fraction in range
-pub data NotWhole (x : Float) : Type 0 where
-  no-number : x ≡ nan → NotWhole x
-  fraction : (s : Bool) (a c : ℕ) → 0 < c → HasValue x s a c → a ≤ 2 ^ 40 * c → (a % c ≡ 0 → ⊥) → NotWhole x
+-- what is not a number
+abbrev pub NotANumber : Float → Type 0
+NotANumber x = x ≡ nan
 
--- reading k is no sample
+-- reading k becomes no sample
 abbrev pub NoSample : List Float → ℕ → Type 0
-NoSample xs k = TooFar (getD xs k nan) ⊎ NotWhole (getD xs k nan)
+NoSample xs k = TooFar (getD xs k nan) ⊎ NotANumber (getD xs k nan)
 
 -- float_sums
 module _ (m : ℕ) (xs : List Float) (room : ℕ) where
@@ -146,7 +145,7 @@ module _ (m : ℕ) (xs : List Float) (room : ℕ) where
     size : {n p : ℕ} → OfSize 10922 (2 * m + 1) m (length xs) n p → OfReadings n p
     no-room : NoRow (OfSize 10922 (2 * m + 1) m (length xs)) → room < length xs → OfReadings 6 0
     far : {i : ℕ} → NoRow (OfSize 10922 (2 * m + 1) m (length xs)) → length xs ≤ room → First (length xs) (NoSample xs) i → TooFar (getD xs i nan) → OfReadings 3 i
-    not-whole : {i : ℕ} → NoRow (OfSize 10922 (2 * m + 1) m (length xs)) → length xs ≤ room → First (length xs) (NoSample xs) i → NotWhole (getD xs i nan) → OfReadings 4 i
+    no-number : {i : ℕ} → NoRow (OfSize 10922 (2 * m + 1) m (length xs)) → length xs ≤ room → First (length xs) (NoSample xs) i → NotANumber (getD xs i nan) → OfReadings 4 i
 
 -- ---- drawn numbers, noise types and bars
 

@@ -1,8 +1,8 @@
 -- What conditions 2 and 3 promise of each figure, in the rules' words: the published figure, and nothing about how it is worked. Where a call is
 -- answered at all is told by Grounds.antt.
 use mathlib.Core.Path.{_≡_}
-use mathlib.Core.List.{List}
-use Prim.Native.Nat.{ℕ, _+_, _-_, _*_, _/_, _^_, _≤_, _<_, _∣_}
+use mathlib.Core.List.{List, [], _∷_}
+use Prim.Native.Nat.{ℕ, suc, _+_, _-_, _*_, _/_, _^_, _≤_, _<_, _∣_}
 use lib.Dec.{leb}
 use lib.Ieee.{Float}
 use lib.IntN.{ℤ, pos, negsuc, natAbs, _+ℤ_, _-ℤ_, _*ℤ_}
@@ -16,6 +16,7 @@ use Rattle.record.specs.declared.CountAnswer.{CountAnswer}
 use Rattle.sums.specs.Published.{allanSum, modifiedSum}
 use Rattle.sums.specs.declared.Part.{Part}
 use Rattle.variances.specs.Deviations.{within}
+use Rattle.readings.specs.Readings.{Exactly}
 use Rattle.plot.specs.Drawn.{plusZero, GreatestDouble}
 use Rattle.plot.specs.Dots.{dotNumber, dotValue}
 use Rattle.plot.specs.declared.dots.Dot.{Dot}
@@ -36,6 +37,14 @@ pub record PartsOf (m : ℕ) (xs : List ℤ) (allan modified : Part) : Type 0 wh
   pub allan-not-due : length xs < 2 * m + 1 → allan .number ≡ 1
   pub modified-due : 3 * m ≤ length xs → (modified .number ≡ 0) × SumOf (modifiedSum m xs) (length xs - 3 * m + 1) (modified .sum) (modified .count)
   pub modified-not-due : length xs < 3 * m → modified .number ≡ 1
+
+-- ---- float readings
+
+-- how many readings were changed: those that are not their samples exactly
+pub data Changed : List Float → List ℤ → ℕ → Type 0 where
+  no-reading : Changed [] [] 0
+  kept : {x : Float} {z : ℤ} {xs : List Float} {zs : List ℤ} {n : ℕ} → Exactly x z → Changed xs zs n → Changed (x ∷ xs) (z ∷ zs) n
+  changed : {x : Float} {z : ℤ} {xs : List Float} {zs : List ℤ} {n : ℕ} → (Exactly x z → ⊥) → Changed xs zs n → Changed (x ∷ xs) (z ∷ zs) (suc n)
 
 -- ---- fractions
 

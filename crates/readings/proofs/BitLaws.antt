@@ -160,6 +160,19 @@ module _ (s : Bool) (field digits : ℕ) (low : digits < 2 ^ 52) where
     pub large-fraction : hasFraction sized ≡ not (eqb ((2 ^ 52 + digits) % 2 ^ k) 0)
     large-fraction = fraction-by-value s (2 ^ 52 + digits) (2 ^ k) (pow-pos k) sized (value-below s digits field k sum some)
 
+-- every subnormal is 0, and has a fraction
+pub subnormal-is-nought : (s : Bool) (digits : ℕ) → 0 < digits → digits < 2 ^ 52 → (readingNumber (ofFields binary64 s 0 digits) ≡ 0)
+    × (sampleOf (ofFields binary64 s 0 digits) ≡ pos 0) × (hasFraction (ofFields binary64 s 0 digits) ≡ true)
+subnormal-is-nought s digits some low = (
+  fields-within s 0 digits low (omega arith),
+  small-sample s 0 digits low (omega arith) ∙ no-sign s,
+  small-fraction s 0 digits low (omega arith) ∙ ap not (ne-eqb (0 + digits) 0 (λ none. omega arith)),
+)
+  where
+    no-sign : (t : Bool) → withSign t 0 ≡ pos 0
+    no-sign true = refl
+    no-sign false = refl
+
 -- ---- a double and its bits
 
 module _ (x : Float) (held : T (fits binary64 x)) where

@@ -15,7 +15,7 @@ use lib.Ieee.Exact.{HasValue}
 use lib.Ieee.Nearest.{closest, closest-mono, closest-same}
 use Rattle.laws.specs.Nearest.{withSign}
 use Rattle.laws.proofs.Tests.{choice-true, choice-false, true-holds, tests-agree}
-use Rattle.laws.proofs.Rounding.{closest-whole, near-is-closest, with-sign-size, closest-is-nearest, nearest-is-closest}
+use Rattle.laws.proofs.Rounding.{closest-whole, with-sign-size, closest-is-nearest, nearest-is-closest}
 use Rattle.readings.specs.Readings.{readingNumber, sampleOf, hasFraction, Nearest, Exactly}
 
 -- ---- readings that are told by their bits or their kind
@@ -97,19 +97,6 @@ module _ (s : Bool) (a c : ℕ) (some : 0 < c) where
     pub within-the-range : a ≤ 2 ^ 40 * c → readingNumber x ≡ 0
     within-the-range h = number-by-value x value ∙ choice-false _ _ (le-ltb (2 ^ 40 * c) a h)
 
-    -- a reading nearer to nought than a half, every subnormal among them, is 0
-    pub below-a-half : 2 * a < c → sampleOf x ≡ pos 0
-    below-a-half h = sample-by-value x value ∙ ap (withSign s) (sym (near-is-closest a c some 0 (omega arith) (λ exact. refl))) ∙ no-sign s
-      where
-        no-sign : (t : Bool) → withSign t 0 ≡ pos 0
-        no-sign true = refl
-        no-sign false = refl
-
--- the least subnormal is 0, and has a fraction
-pub least-subnormal-is-nought : (readingNumber (ofBits binary64 1) ≡ 0) × (sampleOf (ofBits binary64 1) ≡ pos 0) × (hasFraction (ofBits binary64 1) ≡ true)
-unfolding ofBits readingNumber sampleOf hasFraction
-least-subnormal-is-nought = (refl, refl, refl)
-
 -- ---- a reading that becomes a sample
 
 -- only what is not a number differs from itself
@@ -166,7 +153,13 @@ nearest-is-sample x z n =
     nearest-is-closest (n .sign) (n .over) (n .under) z (n .nearest)
     ∙ sym (sample-by-value (n .sign) (n .over) (n .under) (n .nearest .some) x (n .value))
 
--- a reading without a fraction is its sample exactly
+-- a reading with a fraction is no whole number exactly
+pub fraction-not-exact : (x : Float) → hasFraction x ≡ true → (z : ℤ) → Exactly x z → ⊥
+fraction-not-exact x fraction z exact =
+    let none : natAbs z % 1 ≡ 0 = omega arith in
+    true≢false (sym fraction ∙ fraction-by-value (exact .sign) (natAbs z) 1 (omega arith) x (exact .value) ∙ ap not (eq-eqb (natAbs z % 1) 0 none))
+
+-- and one without is its sample exactly
 pub sample-exact : (x : Float) → readingNumber x ≡ 0 → hasFraction x ≡ false → Exactly x (sampleOf x)
 unfolding sampleOf readingNumber hasFraction
 sample-exact nan number whole = absurd (omega arith)
