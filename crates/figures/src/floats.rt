@@ -1,4 +1,4 @@
-// Float readings: which are taken as samples, what the others are refused for, and what is left in the buffer.
+// Float readings: what they become, how many are changed, what some are refused for, and what is left in the buffer.
 use crate::print::number;
 use crate::print::part;
 use crate::print::refusal;
@@ -28,6 +28,7 @@ const SIZES: [[usize; 3]; 14] = [
 
 pub(crate) fn figures() {
     ends_of_the_range();
+    halves();
     fractions();
     not_finite();
     by_index();
@@ -45,10 +46,23 @@ fn ends_of_the_range() {
     three(b"0, -0, 0", &[0.0, -0.0, 0.0]);
 }
 
-// Readings that are not whole, and the doubles next to the ends of the range.
-fn fractions() {
+// Halves, to the even number.
+fn halves() {
     three(b"0.5, 0, 0", &[0.5, 0.0, 0.0]);
     three(b"0, -0.5, 0", &[0.0, -0.5, 0.0]);
+    three(b"1.5, 0, 0", &[1.5, 0.0, 0.0]);
+    three(b"0, -2.5, 0", &[0.0, -2.5, 0.0]);
+    three(
+        b"0, 0, 0.49999999999999994",
+        &[0.0, 0.0, 0.49999999999999994],
+    );
+    three(b"0.5, 1.5, -2.5", &[0.5, 1.5, -2.5]);
+}
+
+// Fractions next to the ends of the range, on either side.
+fn fractions() {
+    three(b"2^40 - 0.5, 0, 0", &[1099511627775.5, 0.0, 0.0]);
+    three(b"0, -2^40 + 0.5, 0", &[0.0, -1099511627775.5, 0.0]);
     three(b"2^40 + 0.5, 0, 0", &[1099511627776.5, 0.0, 0.0]);
     three(b"0, -2^40 - 0.5, 0", &[0.0, -1099511627776.5, 0.0]);
     three(
@@ -74,9 +88,16 @@ fn not_finite() {
 
 // The lowest index decides, whichever its number.
 fn by_index() {
-    three(b"0, 0.5, 2^40 + 1", &[0.0, 0.5, 1099511627777.0]);
-    three(b"0, 2^40 + 1, 0.5", &[0.0, 1099511627777.0, 0.5]);
-    three(b"0.5, infinite, 0", &[0.5, 1.0 / 0.0, 0.0]);
+    let no_number = 0.0 / 0.0;
+    three(
+        b"0, not a number, 2^40 + 1",
+        &[0.0, no_number, 1099511627777.0],
+    );
+    three(
+        b"0, 2^40 + 1, not a number",
+        &[0.0, 1099511627777.0, no_number],
+    );
+    three(b"0.5, not a number, 0", &[0.5, no_number, 0.0]);
     three(b"infinite, not a number, 0.5", &[1.0 / 0.0, 0.0 / 0.0, 0.5]);
     three(b"not a number, infinite, 0", &[0.0 / 0.0, 1.0 / 0.0, 0.0]);
 }
@@ -143,7 +164,7 @@ fn too_many() {
     text(b"\n");
 }
 
-// The two sums, or the refusal.
+// The two sums and how many readings were changed, or the refusal.
 fn sums(answer: FloatSums) {
     if answer.number != 0 {
         refusal(answer.number, answer.place);
@@ -153,4 +174,6 @@ fn sums(answer: FloatSums) {
     part(answer.allan);
     text(b", modified");
     part(answer.modified);
+    text(b", changed ");
+    number(answer.changed);
 }
