@@ -1,11 +1,27 @@
 //! Drawn numbers and dots.
 
-use super::floats::{size_of_bits, Size};
 use super::fractions::{allan_deviation, time_deviation};
 use super::{ask, greatest, Answer, Refusal};
 
 /// The bits of the infinite double: every finite one that is not negative has fewer.
 const INFINITE: u64 = 0x7FF << 52;
+
+/// The size of a finite double, exactly: digits times 2^exponent.
+struct Size {
+    digits: u64,
+    exponent: i32,
+}
+
+/// The size that the lower 63 bits of a finite double stand for.
+fn size_of_bits(bits: u64) -> Size {
+    let field = (bits >> 52 & 0x7FF) as i32;
+    let fraction = bits & ((1 << 52) - 1);
+    if field == 0 {
+        Size { digits: fraction, exponent: -1074 }
+    } else {
+        Size { digits: 1 << 52 | fraction, exponent: field - 1075 }
+    }
+}
 
 /// Whether the double with these bits, not negative, is not above r / 2^20, for r at least 1.
 fn not_above(bits: u64, r: u64) -> bool {

@@ -3,7 +3,7 @@
 use super::drawn::{allan_dot, drawn_number, time_dot, Dot};
 use super::drift::{drift_figure, remove_drift, Drift};
 use super::file::{file_of, read_file, write_file, Kind, Read};
-use super::floats::{float_sums, sample_of};
+use super::floats::{float_sums, sample_of, FloatSums};
 use super::fractions::*;
 use super::frequency::{frequency_from_phase, phase_from_frequency};
 use super::meter;
@@ -111,19 +111,64 @@ fn noise_and_bars() {
 fn limits() {
     assert_eq!(allan_sum(&[0, END, 0], 1), sum(1 << 82, 1));
     assert_eq!(allan_sum(&[0, END + 1, 0], 1), refused(3, 1));
-    for (reading, sample) in [(END as f64, Ok(END)), (END as f64 + 1.0, Err(3)), (0.5, Err(4)), (END as f64 + 0.5, Err(3))] {
-        assert_eq!(sample_of(reading), sample);
-    }
-    for (reading, sample) in [(-0.0, Ok(0)), (f64::NAN, Err(4)), (f64::NEG_INFINITY, Err(3)), (5e-324, Err(4)), (-3.0, Ok(-3)), (1e300, Err(3))] {
-        assert_eq!(sample_of(reading), sample);
-    }
     let m = 7;
     assert_eq!(allan_sum(&[0; 14], m), refused(1, 0));
     assert_eq!(allan_sum(&[0; 15], m), sum(0, 1));
+}
+
+#[test]
+fn float_readings() {
+    let end = END as f64;
+    // What a single reading between noughts becomes, and how many were changed.
+    let becomes = |reading: f64| {
+        let mut buffer = [7; 4];
+        float_sums(&[0.0, reading, 0.0], 1, &mut buffer).map(|sums| {
+            assert_eq!((buffer[0], buffer[2], buffer[3]), (0, 0, 7));
+            (buffer[1], sums.changed)
+        })
+    };
+    for (reading, sample) in [(0.5, 0), (0.49999999999999994, 0), (1.5, 2), (-2.5, -2), (end - 0.5, END)] {
+        assert_eq!(becomes(reading), Ok((sample, 1)));
+    }
+    for (reading, sample) in [(-0.5, 0), (5e-324, 0), (-5e-324, 0), (0.5f64.next_up(), 1), (2.5, 2), (-1.5, -2), (3.75, 4), (-end + 0.5, -END)] {
+        assert_eq!(becomes(reading), Ok((sample, 1)));
+    }
+    for (reading, sample) in [(0.0, 0), (-0.0, 0), (-3.0, -3), (end, END), (-end, -END), (end - 1.0, END - 1)] {
+        assert_eq!(becomes(reading), Ok((sample, 0)));
+    }
+    for reading in [end + 0.5, end + 1.0, end.next_up(), -end.next_up(), 1e300, f64::INFINITY, f64::NEG_INFINITY] {
+        assert_eq!(becomes(reading), refused(3, 1));
+    }
+    assert_eq!(becomes(f64::NAN), refused(4, 1));
     let mut buffer = [1; 3];
-    let sums = float_sums(&[0.0, 1.0, 0.0], 1, &mut buffer).unwrap();
-    assert_eq!((sums.allan, sums.modified), (Some(Sum { total: 4, count: 1 }), Some(Sum { total: 4, count: 1 })));
+    let square = Sum { total: 4, count: 1 };
+    assert_eq!(float_sums(&[0.0, 1.0, 0.0], 1, &mut buffer), Ok(FloatSums { allan: square, modified: Some(square), changed: 0 }));
     assert_eq!(buffer, [0, 1, 0]);
+    assert_eq!(float_sums(&[0.5, f64::NAN, end + 1.0], 1, &mut buffer), refused(4, 1));
+    assert_eq!(buffer, [0, 1, 0]);
+}
+
+/// Wholes, halves and quarters about every power of 2 in the sample range, with their neighbours and both signs: by the rule's own words, and as the
+/// standard library rounds.
+#[test]
+fn nearest_whole_numbers() {
+    for power in 0..=40 {
+        for quarters in -9..=9 {
+            let middle = 2f64.powi(power) + quarters as f64 / 4.0;
+            for size in [middle.next_down(), middle, middle.next_up()] {
+                if size.abs() > END as f64 {
+                    continue;
+                }
+                for reading in [size, -size] {
+                    let z = sample_of(reading).unwrap();
+                    // The distance is exact: z is 0, or neither is over twice the other.
+                    let twice = 2.0 * (z as f64 - reading).abs();
+                    assert!(twice < 1.0 || twice == 1.0 && z % 2 == 0, "{reading:?} became {z}");
+                    assert_eq!(z, reading.round_ties_even() as i64, "{reading:?}");
+                }
+            }
+        }
+    }
 }
 
 #[test]

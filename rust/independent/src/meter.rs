@@ -1,7 +1,6 @@
 //! The running meter. Its ring is lent; a refused call leaves both as they were.
 
-use super::floats::Sums;
-use super::sums::Sum;
+use super::sums::{Sum, Sums};
 use super::{ask, in_sample_range, Answer, LARGEST_FACTOR, MOST_SAMPLES};
 
 /// What the meter holds between calls. Any content may be handed in.

@@ -9,6 +9,13 @@ pub struct Sum {
     pub count: u64,
 }
 
+/// Both sums, each none where there are too few samples for it.
+#[derive(Clone, Copy, Debug, PartialEq, Eq)]
+pub struct Sums {
+    pub allan: Option<Sum>,
+    pub modified: Option<Sum>,
+}
+
 /// Refuses 5, 2, 1, then 3 at the lowest index, for a record that needs `fewest` samples at factor m.
 pub(crate) fn ask_record(samples: &[i64], m: u64, largest: u64, fewest: impl Fn(u64) -> u64) -> Answer<()> {
     let n = samples.len() as u64;

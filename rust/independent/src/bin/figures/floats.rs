@@ -1,10 +1,10 @@
-//! Float readings: which are taken as samples, what the others are refused for, and what is left in the buffer.
+//! Float readings: which samples they become, how many of them were changed, what the others are refused for, and what is left in the buffer.
 
-use independent::floats::float_sums;
+use independent::floats::{float_sums, FloatSums};
 
-use crate::print::{answer, part, values};
+use crate::print::{answer, part, sum, values};
 
-const THREES: [&str; 23] = [
+const THREES: [&str; 29] = [
     "3, -1, 4",
     "2^40, 0, 0",
     "0, -2^40, 0",
@@ -13,6 +13,12 @@ const THREES: [&str; 23] = [
     "0, -0, 0",
     "0.5, 0, 0",
     "0, -0.5, 0",
+    "1.5, 0, 0",
+    "0, -2.5, 0",
+    "0, 0, 0.49999999999999994",
+    "0.5, 1.5, -2.5",
+    "2^40 - 0.5, 0, 0",
+    "0, -2^40 + 0.5, 0",
     "2^40 + 0.5, 0, 0",
     "0, -2^40 - 0.5, 0",
     "0, 0, 2^40 + 2^-12",
@@ -23,9 +29,9 @@ const THREES: [&str; 23] = [
     "0, 2^-1074, 0",
     "0, -2^-1074, 0",
     "2^1024 - 2^971, 0, 0",
-    "0, 0.5, 2^40 + 1",
-    "0, 2^40 + 1, 0.5",
-    "0.5, infinite, 0",
+    "0, not a number, 2^40 + 1",
+    "0, 2^40 + 1, not a number",
+    "0.5, not a number, 0",
     "infinite, not a number, 0.5",
     "not a number, infinite, 0",
 ];
@@ -71,6 +77,8 @@ fn reading(words: &str) -> f64 {
         "-2^40" => -end,
         "2^40 + 1" => end + 1.0,
         "-2^40 - 1" => -end - 1.0,
+        "2^40 - 0.5" => end - 0.5,
+        "-2^40 + 0.5" => -end + 0.5,
         "2^40 + 0.5" => end + 0.5,
         "-2^40 - 0.5" => -end - 0.5,
         "2^40 + 2^-12" => end + 1.0 / 4096.0,
@@ -85,8 +93,8 @@ fn reading(words: &str) -> f64 {
     }
 }
 
-/// The two sums, or the refusal.
+/// The two sums and how many readings were changed, or the refusal.
 fn sums(readings: &[f64], m: u64, buffer: &mut [i64]) -> String {
-    let words = |allan, modified| format!("Allan {}, modified {}", part(allan), part(modified));
-    answer(float_sums(readings, m, buffer).map(|sums| words(sums.allan.ok_or(1), sums.modified.ok_or(1))))
+    let words = |sums: FloatSums| format!("Allan {}, modified {}, changed {}", sum(sums.allan), part(sums.modified.ok_or(1)), sums.changed);
+    answer(float_sums(readings, m, buffer).map(words))
 }

@@ -1,8 +1,7 @@
 //! Streams fed to the running meter, sample by sample, beside the sums of the whole record.
 
-use independent::floats::Sums;
 use independent::meter::{self, Meter};
-use independent::sums::{allan_sum, modified_sum, Sum};
+use independent::sums::{allan_sum, modified_sum, Sum, Sums};
 use independent::Answer;
 
 use crate::print::part;
