@@ -161,6 +161,23 @@ fn a_bar_row_is_three_doubles() {
     assert!(!HEADER.to_lowercase().contains("bool"));
 }
 
+/// The answer of float readings is both sums and, at its end, how many readings were changed; the meter's report has no such count.
+#[test]
+fn a_count_ends_the_sums_of_float_readings() {
+    let declared = of_header();
+    for line in [
+        "struct SumsAnswer { number: u64, place: u64, allan: Part, modified: Part }",
+        "struct FloatSumsAnswer { number: u64, place: u64, allan: Part, modified: Part, changed: u64 }",
+        "fn plg_float_sums(readings: *const f64, readings_length: usize, m: u64, buffer: *mut i64, buffer_length: usize) -> FloatSumsAnswer",
+        "fn plg_meter_report(meter: Meter) -> SumsAnswer",
+    ] {
+        assert!(declared.contains(line), "{line}");
+    }
+    assert_eq!(std::mem::size_of::<boundary::SumsAnswer>(), 10 * 8);
+    assert_eq!(std::mem::size_of::<boundary::FloatSumsAnswer>(), 11 * 8);
+    assert_eq!(std::mem::offset_of!(boundary::FloatSumsAnswer, changed), 10 * 8);
+}
+
 #[test]
 fn a_safe_function_for_each_entry() {
     let sources = [
@@ -216,7 +233,7 @@ fn same_numbers() {
         ("TOO_FEW", Ground::TooFew.number().into()),
         ("TOO_MANY", Ground::TooMany.number().into()),
         ("OUT_OF_RANGE", Ground::OutOfRange.number().into()),
-        ("NOT_WHOLE", Ground::NotWhole.number().into()),
+        ("NOT_A_NUMBER", Ground::NotANumber.number().into()),
         ("BAD_FACTOR", Ground::BadFactor.number().into()),
         ("NO_ROOM", Ground::NoRoom.number().into()),
         ("BAD_METER", Ground::BadMeter.number().into()),

@@ -1,15 +1,17 @@
-//! The crate `readings` over the C boundary: float readings to samples and sums.
+//! The crate `readings` over the C boundary: float readings to samples and sums, and how many of them were changed.
 
 #[allow(dead_code)]
 mod shared;
 
 use independent::floats;
+use shared::doubles::{any_double, notable, readings};
 use shared::lent::{Lent, Sides};
 use shared::random::Random;
 use shared::records::{factors, lengths, record, rooms};
 use shared::{raw, shown, Tally, END};
 
-fn case(tally: &mut Tally, readings: &[f64], m: u64, room: usize) {
+/// One case. Gives how many readings were changed, where the call was answered.
+fn case(tally: &mut Tally, readings: &[f64], m: u64, room: usize) -> Option<u64> {
     let input = || {
         let bits: Vec<u64> = readings.iter().map(|reading| reading.to_bits()).collect();
         format!("factor {m}, buffer of {room}, readings {}, bits {}", shown(readings), shown(&bits))
@@ -20,26 +22,53 @@ fn case(tally: &mut Tally, readings: &[f64], m: u64, room: usize) {
     tally.same(&raw, &ploegelster::float_sums(lent.part(), m, buffers.wrapped.part()), &own, input);
     buffers.same_painted(own.is_err(), input);
     assert!(lent.holds(readings), "readings changed, {}", input());
+    (raw.number == 0).then_some(raw.changed)
 }
 
-fn doubles(samples: &[i64]) -> Vec<f64> {
-    samples.iter().map(|&x| x as f64).collect()
-}
-
-/// Doubles of every class, and every limit with fractions and neighbours about it, each with both signs.
-fn notable() -> Vec<f64> {
+/// What single readings become, as the rules tell it, without the second implementation: the sample and how many were changed, or the number.
+#[test]
+fn readings_that_the_rules_name() {
     let end = END as f64;
-    let mut sizes = vec![0.0, 0.5, 1.0, 1.5, 2.0, 3.0, 1e15, 1e300, f64::MIN_POSITIVE, f64::MAX, f64::from_bits(1), f64::from_bits((1 << 52) - 1)];
-    sizes.extend([-1.0, -0.5, -0.25, 0.0, 0.25, 0.5, 1.0, 1.5].map(|step| end + step));
-    sizes.extend((-60..70).map(|power| 2f64.powi(power)));
-    sizes.extend((0..53).map(|power| 2f64.powi(power) + 1.0));
-    sizes.extend((0..53).map(|power| 2f64.powi(power) + 0.5));
-    let near: Vec<f64> = sizes.iter().flat_map(|size| [size.next_down(), size.next_up()]).collect();
-    sizes.extend(near);
-    sizes.push(f64::INFINITY);
-    let not_numbers = [1, 2, 0xDEAD_BEEF, 1 << 50, (1 << 51) - 1, 1 << 51, (1 << 51) + 1, (1 << 52) - 1];
-    sizes.extend(not_numbers.map(|payload| f64::from_bits(0x7FF << 52 | payload)));
-    sizes.iter().flat_map(|&size| [size, f64::from_bits(size.to_bits() ^ 1 << 63)]).collect()
+    let named = [
+        (0.5, Ok((0, 1))),
+        (-0.5, Ok((0, 1))),
+        (0.49999999999999994, Ok((0, 1))),
+        (1.5, Ok((2, 1))),
+        (-2.5, Ok((-2, 1))),
+        (end - 0.5, Ok((END, 1))),
+        (-end + 0.5, Ok((-END, 1))),
+        (5e-324, Ok((0, 1))),
+        (-5e-324, Ok((0, 1))),
+        (0.0, Ok((0, 0))),
+        (-0.0, Ok((0, 0))),
+        (end, Ok((END, 0))),
+        (-end, Ok((-END, 0))),
+        (end + 0.5, Err(3)),
+        (-end - 0.5, Err(3)),
+        (end.next_up(), Err(3)),
+        (f64::INFINITY, Err(3)),
+        (f64::NEG_INFINITY, Err(3)),
+        (f64::NAN, Err(4)),
+    ];
+    for (reading, becomes) in named {
+        for index in 0..3 {
+            let (mut readings, mut samples, mut buffer) = ([7.0; 3], [7, 7, 7, 9], [9; 4]);
+            readings[index] = reading;
+            let answer = raw::float_sums(&readings, 1, &mut buffer);
+            let told = match becomes {
+                Ok((sample, changed)) => {
+                    samples[index] = sample;
+                    (0, 0, changed)
+                }
+                Err(number) => {
+                    samples = [9; 4];
+                    (number, index as u64, 0)
+                }
+            };
+            assert_eq!((answer.number, answer.place, answer.changed), told, "{reading:?} at {index}");
+            assert_eq!(buffer, samples, "{reading:?} at {index}");
+        }
+    }
 }
 
 #[test]
@@ -47,7 +76,8 @@ fn notable_readings_at_every_index() {
     let (mut tally, mut random) = (Tally::default(), Random::new(21));
     for reading in notable() {
         for length in [3, 7] {
-            let sound = doubles(&record(&mut random, length));
+            let sound = record(&mut random, length);
+            let sound = readings(&mut random, &sound);
             for index in 0..length {
                 let mut readings = sound.clone();
                 readings[index] = reading;
@@ -55,26 +85,32 @@ fn notable_readings_at_every_index() {
             }
         }
     }
-    tally.ran(15_540, &[0, 3, 4]);
+    tally.ran(64_780, &[0, 3, 4]);
 }
 
+/// Whatever stands before or between, the first reading that becomes no sample is told, and beside it no reading counts as changed.
 #[test]
 fn the_lowest_index_is_told() {
     let mut tally = Tally::default();
-    let bad = [f64::NAN, f64::INFINITY, f64::NEG_INFINITY, 0.5, END as f64 + 0.5, -(END as f64) - 1.0, 5e-324];
-    for first in 0..8 {
-        for second in 0..8 {
-            for one in bad {
-                for other in bad {
-                    let mut readings = [-0.0; 8];
-                    readings[first] = one;
-                    readings[second] = other;
-                    case(&mut tally, &readings, 2, 8);
+    let end = END as f64;
+    let bad = [(f64::NAN, 4), (f64::INFINITY, 3), (-f64::NAN, 4), (f64::NEG_INFINITY, 3), (end + 0.5, 3), (-end.next_up(), 3), (1e300, 3)];
+    for sound in [-0.0, 0.5, -1.5, 5e-324] {
+        for first in 0..8 {
+            for second in first + 1..8 {
+                for (one, number) in bad {
+                    for (other, _) in bad {
+                        let mut readings = [sound; 8];
+                        readings[first] = one;
+                        readings[second] = other;
+                        case(&mut tally, &readings, 2, 8);
+                        let answer = raw::float_sums(&readings, 2, &mut [0; 8]);
+                        assert_eq!((answer.number, answer.place, answer.changed), (number, first as u64, 0), "{readings:?}");
+                    }
                 }
             }
         }
     }
-    tally.ran(3_136, &[3, 4]);
+    tally.ran(5_488, &[3, 4]);
 }
 
 #[test]
@@ -82,8 +118,10 @@ fn limits_of_factor_length_and_room() {
     let (mut tally, mut random) = (Tally::default(), Random::new(22));
     for m in factors() {
         for length in lengths(m) {
+            let sound = record(&mut random, length);
+            let sound = readings(&mut random, &sound);
             for room in rooms(length) {
-                let mut readings = doubles(&record(&mut random, length));
+                let mut readings = sound.clone();
                 if length > 0 && random.one_in(3) {
                     readings[random.below(length as u64) as usize] = random.pick(&[f64::NAN, 0.5, 1e30]);
                 }
@@ -94,23 +132,17 @@ fn limits_of_factor_length_and_room() {
     tally.ran(3_440, &[0, 1, 2, 3, 4, 5, 6]);
 }
 
-/// A double of any bits, most often near the sample range, and often whole.
-fn any_double(random: &mut Random) -> f64 {
-    let field = match random.below(4) {
-        0 => random.below(2048),
-        _ => 1023 - 3 + random.below(48),
-    };
-    let fraction = (random.word() >> 12) & (u64::MAX << random.below(53));
-    f64::from_bits(random.below(2) << 63 | field << 52 | fraction)
-}
-
 #[test]
 fn readings_of_any_bits() {
     let (mut tally, mut random) = (Tally::default(), Random::new(23));
+    let mut counts = [0; 6];
     for _ in 0..40_000 {
         let readings: Vec<f64> = (0..3 + random.below(3)).map(|_| any_double(&mut random)).collect();
-        case(&mut tally, &readings, 1, 6);
+        if let Some(changed) = case(&mut tally, &readings, 1, 6) {
+            counts[changed as usize] += 1;
+        }
     }
+    assert!(counts.iter().all(|&times| times > 100), "{counts:?}");
     tally.ran(40_000, &[0, 3, 4]);
 }
 
@@ -121,7 +153,8 @@ fn short_and_long_records() {
         let long = turn % 40 == 0;
         let m = if long { random.factor(10_922) } else { random.below(11) };
         let length = if long { random.between(2 * m as i64, 32_768) } else { random.between(0, 40) } as usize;
-        let mut readings = doubles(&record(&mut random, length));
+        let sound = record(&mut random, length);
+        let mut readings = readings(&mut random, &sound);
         if length > 0 && random.one_in(4) {
             readings[random.below(length as u64) as usize] = any_double(&mut random);
         }
@@ -129,4 +162,20 @@ fn short_and_long_records() {
         case(&mut tally, &readings, m, room);
     }
     tally.ran(16_000, &[0, 1, 3, 4, 5, 6]);
+}
+
+/// The count of the longest record is that of its fractions, from none of the readings to all of them.
+#[test]
+fn counts_up_to_every_reading() {
+    let mut tally = Tally::default();
+    for changed in [0, 1, 2, 255, 256, 257, 16_384, 32_767, 32_768] {
+        for fraction in [0.5, -0.9, 5e-324] {
+            // Those with a fraction lie at the end in one record, at the start in the other.
+            let mut readings: Vec<f64> = (0..32_768).map(|i| if i < 32_768 - changed { -7.0 } else { fraction }).collect();
+            assert_eq!(case(&mut tally, &readings, 1, 32_768), Some(changed));
+            readings.reverse();
+            assert_eq!(case(&mut tally, &readings, 1, 32_768), Some(changed));
+        }
+    }
+    tally.ran(54, &[0]);
 }

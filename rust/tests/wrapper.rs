@@ -38,6 +38,15 @@ fn a_refusal_in_words() {
 }
 
 #[test]
+fn a_reading_that_is_not_a_number_in_words() {
+    let mut samples = [7; 3];
+    let refusal = ploegelster::float_sums(&[0.5, f64::NAN, 0.0], 1, &mut samples).unwrap_err();
+    assert_eq!(refusal, Refusal { ground: Ground::NotANumber, place: 1 });
+    assert_eq!(refusal.to_string(), "refused 4, a reading that is not a number, at 1");
+    assert_eq!(samples, [7; 3]);
+}
+
+#[test]
 fn halves() {
     const MOST: u64 = u64::MAX;
     let wholes = [(0, 0, 0), (1, 0, 1), (MOST as u128, 0, MOST), (1 << 64, 1, 0), (5 << 64 | 7, 5, 7), (u128::MAX - 1, MOST, MOST - 1)];

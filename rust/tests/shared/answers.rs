@@ -3,11 +3,11 @@
 use independent::drawn::Dot;
 use independent::drift::Drift;
 use independent::file::Read;
-use independent::floats::Sums;
+use independent::floats::FloatSums;
 use independent::fractions::Fraction;
 use independent::meter::Meter;
 use independent::noise::{Bars, Noise};
-use independent::sums::Sum;
+use independent::sums::{Sum, Sums};
 use independent::Answer;
 use ploegelster::boundary;
 
@@ -28,10 +28,19 @@ impl Words for boundary::SumAnswer {
     }
 }
 
+fn part_words(part: &boundary::Part) -> [u64; 4] {
+    [part.number, part.sum.high, part.sum.low, part.count]
+}
+
 impl Words for boundary::SumsAnswer {
     fn words(&self) -> Vec<u64> {
-        let (a, b) = (&self.allan, &self.modified);
-        vec![self.number, self.place, a.number, a.sum.high, a.sum.low, a.count, b.number, b.sum.high, b.sum.low, b.count]
+        [&[self.number, self.place][..], &part_words(&self.allan), &part_words(&self.modified)].concat()
+    }
+}
+
+impl Words for boundary::FloatSumsAnswer {
+    fn words(&self) -> Vec<u64> {
+        [&[self.number, self.place][..], &part_words(&self.allan), &part_words(&self.modified), &[self.changed]].concat()
     }
 }
 
@@ -119,14 +128,25 @@ impl Values for Sum {
     }
 }
 
+/// A sum as a part of an answer: 0 and the sum, or 1 and noughts.
+fn part<T: Values>(part: Option<&T>) -> Vec<u64> {
+    match part {
+        Some(sum) => [vec![0], sum.values()].concat(),
+        None => [vec![1], vec![0; T::LENGTH]].concat(),
+    }
+}
+
 impl Values for Sums {
     const LENGTH: usize = 8;
     fn values(&self) -> Vec<u64> {
-        let part = |part: &Option<Sum>| match part {
-            Some(sum) => [0, high(sum.total), low(sum.total), sum.count],
-            None => [1, 0, 0, 0],
-        };
-        [part(&self.allan), part(&self.modified)].concat()
+        [part(self.allan.as_ref()), part(self.modified.as_ref())].concat()
+    }
+}
+
+impl Values for FloatSums {
+    const LENGTH: usize = 9;
+    fn values(&self) -> Vec<u64> {
+        [part(Some(&self.allan)), part(self.modified.as_ref()), vec![self.changed]].concat()
     }
 }
 
@@ -210,11 +230,14 @@ impl Values for ploegelster::Sum {
 impl Values for ploegelster::Sums {
     const LENGTH: usize = 8;
     fn values(&self) -> Vec<u64> {
-        let part = |part: &Option<ploegelster::Sum>| match part {
-            Some(sum) => [0, high(sum.total), low(sum.total), sum.count],
-            None => [1, 0, 0, 0],
-        };
-        [part(&self.allan), part(&self.modified)].concat()
+        [part(self.allan.as_ref()), part(self.modified.as_ref())].concat()
+    }
+}
+
+impl Values for ploegelster::FloatSums {
+    const LENGTH: usize = 9;
+    fn values(&self) -> Vec<u64> {
+        [part(self.allan.as_ref()), part(self.modified.as_ref()), vec![self.changed]].concat()
     }
 }
 

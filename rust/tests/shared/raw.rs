@@ -46,7 +46,7 @@ pub fn remove_drift(samples: &[i64], buffer: &mut [i64]) -> CountAnswer {
     unsafe { plg_remove_drift(samples.as_ptr(), samples.len(), buffer.as_mut_ptr(), buffer.len()) }
 }
 
-pub fn float_sums(readings: &[f64], m: u64, buffer: &mut [i64]) -> SumsAnswer {
+pub fn float_sums(readings: &[f64], m: u64, buffer: &mut [i64]) -> FloatSumsAnswer {
     unsafe { plg_float_sums(readings.as_ptr(), readings.len(), m, buffer.as_mut_ptr(), buffer.len()) }
 }
 
