@@ -20,6 +20,11 @@ fn samples() -> Vec<i64> {
     (0..LENGTH).map(|_| next()).collect()
 }
 
+/// The samples with none to nine tenths added, so that nine of ten readings have a fraction.
+fn readings(samples: &[i64]) -> Vec<f64> {
+    samples.iter().enumerate().map(|(i, &x)| x as f64 + (i % 10) as f64 / 10.0).collect()
+}
+
 fn nanoseconds<T>(work: &mut impl FnMut() -> T) -> u64 {
     let start = Instant::now();
     black_box(work());
@@ -57,6 +62,17 @@ fn sums(samples: &[i64], m: u64) {
     let ours = ploegelster::modified_sum(samples, m).expect("the record is sound");
     assert_eq!(Ok((ours.total, ours.count)), straightforward::modified_sum(samples, m));
     compare("modified sum", m, || ploegelster::modified_sum(black_box(samples), m), || straightforward::modified_sum(black_box(samples), m));
+}
+
+fn float_sums(readings: &[f64], m: u64) {
+    let (mut buffer, mut plain_buffer) = (vec![0; LENGTH], vec![0; LENGTH]);
+    let ours = ploegelster::float_sums(readings, m, &mut buffer).expect("the readings are sound");
+    let pair = |sum: ploegelster::Sum| (sum.total, sum.count);
+    let ours = (ours.allan.map(pair).expect("always due"), ours.modified.map(pair), ours.changed);
+    assert_eq!(Ok(ours), straightforward::float_sums(readings, m, &mut plain_buffer));
+    assert_eq!(buffer, plain_buffer);
+    let library = || ploegelster::float_sums(black_box(readings), m, &mut buffer);
+    compare("float sums", m, library, || straightforward::float_sums(black_box(readings), m, &mut plain_buffer));
 }
 
 /// A whole stream through the library's meter, over the plain C interface.
@@ -113,6 +129,9 @@ fn main() {
     println!("|---|---|---|---|---|");
     for m in [1, 100, 5_000] {
         sums(&samples, m);
+    }
+    for m in [1, 100] {
+        float_sums(&readings(&samples), m);
     }
     for m in [1, 100, 5_000] {
         meter(&samples, m, "meter, a sample", library_stream);

@@ -5,16 +5,21 @@ const END: i64 = 1 << 40;
 /// A sum with its count, or the number and place of a refusal.
 pub type Outcome<T> = Result<T, (u64, u64)>;
 
-fn check(samples: &[i64], m: u64, fewest: u64) -> Outcome<()> {
+fn check_size(length: usize, m: u64, fewest: u64) -> Outcome<()> {
     if m < 1 || m > 10_922 {
         return Err((5, 0));
     }
-    if samples.len() > 32_768 {
+    if length > 32_768 {
         return Err((2, 0));
     }
-    if (samples.len() as u64) < fewest {
+    if (length as u64) < fewest {
         return Err((1, 0));
     }
+    Ok(())
+}
+
+fn check(samples: &[i64], m: u64, fewest: u64) -> Outcome<()> {
+    check_size(samples.len(), m, fewest)?;
     match samples.iter().position(|&x| x < -END || x > END) {
         Some(index) => Err((3, index as u64)),
         None => Ok(()),
@@ -24,20 +29,26 @@ fn check(samples: &[i64], m: u64, fewest: u64) -> Outcome<()> {
 #[inline(never)]
 pub fn allan_sum(samples: &[i64], m: u64) -> Outcome<(u128, u64)> {
     check(samples, m, m.saturating_mul(2).saturating_add(1))?;
-    let m = m as usize;
+    Ok(allan_of(samples, m as usize))
+}
+
+fn allan_of(samples: &[i64], m: usize) -> (u128, u64) {
     let count = samples.len() - 2 * m;
     let mut total = 0u128;
     for i in 0..count {
         let d = samples[i + 2 * m] - 2 * samples[i + m] + samples[i];
         total += (d as i128 * d as i128) as u128;
     }
-    Ok((total, count as u64))
+    (total, count as u64)
 }
 
 #[inline(never)]
 pub fn modified_sum(samples: &[i64], m: u64) -> Outcome<(u128, u64)> {
     check(samples, m, m.saturating_mul(3))?;
-    let m = m as usize;
+    Ok(modified_of(samples, m as usize))
+}
+
+fn modified_of(samples: &[i64], m: usize) -> (u128, u64) {
     let difference = |i: usize| samples[i + 2 * m] - 2 * samples[i + m] + samples[i];
     let mut window: i64 = (0..m).map(difference).sum();
     let mut total = (window as i128 * window as i128) as u128;
@@ -46,7 +57,39 @@ pub fn modified_sum(samples: &[i64], m: u64) -> Outcome<(u128, u64)> {
         window += difference(j + m - 1) - difference(j - 1);
         total += (window as i128 * window as i128) as u128;
     }
-    Ok((total, count as u64))
+    (total, count as u64)
+}
+
+/// Both sums with their counts, the modified one where it is due, and how many readings were changed.
+pub type FloatSums = ((u128, u64), Option<(u128, u64)>, u64);
+
+/// The sums of float readings, their samples written to the buffer once all are known to be good.
+#[inline(never)]
+pub fn float_sums(readings: &[f64], m: u64, buffer: &mut [i64]) -> Outcome<FloatSums> {
+    check_size(readings.len(), m, m.saturating_mul(2).saturating_add(1))?;
+    if buffer.len() < readings.len() {
+        return Err((6, 0));
+    }
+    for (index, &reading) in readings.iter().enumerate() {
+        if reading.is_nan() {
+            return Err((4, index as u64));
+        }
+        if reading < -END as f64 || reading > END as f64 {
+            return Err((3, index as u64));
+        }
+    }
+    let samples = &mut buffer[..readings.len()];
+    let mut changed = 0;
+    for (sample, &reading) in samples.iter_mut().zip(readings) {
+        let whole = reading.round_ties_even();
+        if whole != reading {
+            changed += 1;
+        }
+        *sample = whole as i64;
+    }
+    let m = m as usize;
+    let modified = if samples.len() >= 3 * m { Some(modified_of(samples, m)) } else { None };
+    Ok((allan_of(samples, m), modified, changed))
 }
 
 #[derive(Clone, Copy)]
