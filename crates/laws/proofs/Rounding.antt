@@ -115,9 +115,10 @@ like-distance true zero d a = difference-size (pos 0 *ℤ pos d) (negℤ (pos a)
 like-distance true (suc n) d a = difference-size (negsuc n *ℤ pos d) (negℤ (pos a)) ∙ omega (arith, negℤ-parts (pos a), negℤ-parts (pos (suc n * d)))
 
 unlike-distance : (n d a : ℕ) → (distance false a d (negsuc n) ≡ suc n * d + a) × (distance true a d (pos n) ≡ n * d + a)
-unlike-distance n d a =
-    (difference-size (negsuc n *ℤ pos d) (pos a) ∙ omega (arith, negℤ-parts (pos (suc n * d))),
-    difference-size (pos n *ℤ pos d) (negℤ (pos a)) ∙ omega (arith, negℤ-parts (pos a)))
+unlike-distance n d a = (
+  difference-size (negsuc n *ℤ pos d) (pos a) ∙ omega (arith, negℤ-parts (pos (suc n * d))),
+  difference-size (pos n *ℤ pos d) (negℤ (pos a)) ∙ omega (arith, negℤ-parts (pos a)),
+)
 
 module _ (s : Bool) (a d : ℕ) where
   pub closest-is-nearest : 0 < d → NearestTo s a d (withSign s (closest a d))
