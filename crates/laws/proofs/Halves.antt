@@ -3,7 +3,7 @@ use mathlib.Core.Path.{_≡_, refl, sym, ap, ap₂, _∙_}
 use mathlib.Core.Bool.{true, false}
 use Prim.Native.Nat.{ℕ, zero, suc, _+_, _-_, _*_, _/_, _%_, _^_, _≤_, _<_}
 use native.Mathlib.Decide.{decLe, decLt}
-use native.Mathlib.Nat.{one-mul, mod-lt, mod-eq-of-lt, mod-add-mod, mul-pos, mul-le-mul, mul-le-mul-left, mul-le-mul-right, div-add-mod', div-eq-of-lt-le, div-lt-iff-lt-mul, le-mul-of-pos-right, two-pow-succ}
+use native.Mathlib.Nat.{one-mul, mul-lt-mul-of-pos-right, mod-lt, mod-eq-of-lt, mod-add-mod, mul-pos, mul-le-mul, mul-le-mul-left, mul-le-mul-right, div-add-mod', div-eq-of-lt-le, div-lt-iff-lt-mul, le-mul-of-pos-right, two-pow-succ}
 use native.Mathlib.Omega.{arith}
 use borrow.Author.Tests.{le-leb, lt-leb}
 use lib.Dec.{leb}
@@ -38,6 +38,12 @@ remainder-keeps-halves c b n c-positive b-positive =
     remainder-is n (c * b) (n / b / c) (n / b % c * b + n % b)
     (two-digits-below c b (n / b % c) (n % b) (mod-lt (n / b) c-positive) (mod-lt n b-positive))
     (omega (arith, div-add-mod' n b, ap (λ (t : ℕ). t * b) (div-add-mod' (n / b) c)))
+
+-- both scaled alike leave the remainder, scaled
+pub remainder-scaled : (n d u : ℕ) → 0 < d → 0 < u → n * u % (d * u) ≡ n % d * u
+remainder-scaled n d u d-positive u-positive =
+    remainder-is (n * u) (d * u) (n / d) (n % d * u) (mul-lt-mul-of-pos-right (mod-lt n d-positive) u-positive)
+    (omega (arith, ap (λ (t : ℕ). t * u) (div-add-mod' n d)))
 
 -- ---- order: the high halves decide, and where they are equal the low ones
 module _ (b h l h′ l′ : ℕ) where

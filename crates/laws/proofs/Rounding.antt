@@ -1,9 +1,9 @@
--- A fraction a / d to the nearest whole number, on a tie to the even one: its three cases, what it means, that one number is meant, and how it is had
--- by adding and cutting off.
+-- A fraction a / d to the nearest whole number, on a tie to the even one: its three cases, how one test decides, what it means, and that one number is
+-- meant.
 use mathlib.Core.Path.{_≡_, refl, sym, ap, _∙_, subst}
 use mathlib.Core.Bool.{Bool, true, false, not, cond}
 use Prim.Native.Nat.{ℕ, zero, suc, _+_, _-_, _*_, _/_, _%_, _≤_, _<_, compare, Ordering, Ordering·lt, Ordering·eq, Ordering·gt}
-use native.Mathlib.Nat.{mod-lt, mul-le-mul-right, div-add-mod'}
+use native.Mathlib.Nat.{mod-lt, mul-pos, mul-le-mul-right, div-add-mod'}
 use native.Mathlib.Decide.{decLe}
 use native.Mathlib.Omega.{arith}
 use lib.Arith.{lt-of-le-ne}
@@ -12,7 +12,6 @@ use lib.IntN.{ℤ, pos, negsuc, negℤ, natAbs, _-ℤ_, _*ℤ_}
 use lib.Ieee.{nearest}
 use lib.Ieee.Nearest.{closest}
 use Rattle.laws.specs.Nearest.{withSign, distance, NearestTo}
-use Rattle.laws.proofs.Halves.{quotient-is}
 use Rattle.laws.proofs.Parts.{plus, minus, +ℤ-parts, negℤ-parts, size-is, one-part, negℤ-size}
 
 -- ---- the three cases: twice the rest is below the divisor, equal to it, or above it
@@ -35,22 +34,22 @@ closest-whole a d some none =
     let split : a / d * d + a % d ≡ a = div-add-mod' a d in
     closest-by a d (λ n. n * d ≡ a) (λ below. omega arith) (λ tie. absurd (omega arith)) (λ above. absurd (omega arith))
 
--- ---- by adding and cutting off: a half less one, and one more where the whole part is odd
+-- ---- by one test: the rest and the half of the divisor, scaled alike by u; a half passes where the whole part is odd
 
-pub closest-by-carry : (a half : ℕ) → 0 < half → (a + (half - 1) + a / (2 * half) % 2) / (2 * half) ≡ closest a (2 * half)
-closest-by-carry a half some =
-    let d : ℕ = 2 * half in
-    let split : a / d * d + a % d ≡ a = div-add-mod' a d in
-    let under : a % d < d = mod-lt a (omega arith) in
-    closest-by a d (λ n. (a + (half - 1) + a / d % 2) / d ≡ n)
-    (λ below. quotient-is _ d (a / d) (a % d + (half - 1) + a / d % 2) (omega arith) (omega arith))
-    (λ tie. tied (a / d) (a % d) tie split (a / d % 2) (omega arith))
-    (λ above. quotient-is _ d (suc (a / d)) (a % d + (half - 1) + a / d % 2 - d) (omega arith) (omega arith))
-  where
-    tied : (q r : ℕ) → r * 2 ≡ 2 * half → q * (2 * half) + r ≡ a → (odd : ℕ) → odd < 2 → (a + (half - 1) + odd) / (2 * half) ≡ q + odd
-    tied q r tie split zero h = quotient-is _ (2 * half) (q + 0) (2 * half - 1) (omega arith) (omega arith)
-    tied q r tie split (suc zero) h = quotient-is _ (2 * half) (q + 1) 0 (omega arith) (omega arith)
-    tied q r tie split (suc (suc k)) h = absurd (omega arith)
+module _ (a d half u : ℕ) (twice : d ≡ 2 * half) (whole : 0 < half) (some : 0 < u) where
+  pub closest-above : half * u - a / d % 2 < a % d * u → a / d + 1 ≡ closest a d
+  closest-above test =
+      closest-by a d (λ n. a / d + 1 ≡ n)
+      (λ below. let less : a % d + 1 ≤ half = omega arith in absurd (omega (arith, mul-le-mul-right u less)))
+      (λ tie. let same : a % d ≡ half = omega arith in omega (arith, ap (λ (t : ℕ). t * u) same))
+      (λ above. omega arith)
+
+  pub closest-not-above : a % d * u ≤ half * u - a / d % 2 → a / d ≡ closest a d
+  closest-not-above test =
+      closest-by a d (λ n. a / d ≡ n)
+      (λ below. refl)
+      (λ tie. let same : a % d ≡ half = omega arith in omega (arith, ap (λ (t : ℕ). t * u) same, mul-pos whole some))
+      (λ above. let more : half + 1 ≤ a % d = omega arith in absurd (omega (arith, mul-le-mul-right u more)))
 
 -- ---- what it means, of numbers without a sign: twice the distance from n * d is at most d, and n is even where it is exactly d
 

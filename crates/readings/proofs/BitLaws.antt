@@ -3,10 +3,10 @@
 use mathlib.Core.Path.{_≡_, refl, sym, ap, _∙_, subst}
 use mathlib.Core.Bool.{Bool, true, false, not, cond, true≢false}
 use Prim.Native.Nat.{ℕ, zero, suc, _+_, _-_, _*_, _/_, _%_, _^_, _≤_, _<_}
-use native.Mathlib.Nat.{le-mul-of-pos-right, mul-one, mul-right-comm, mul-assoc, mod-eq-of-lt, eq-of-mul-eq-mul-right}
+use native.Mathlib.Nat.{zero-mul, le-mul-of-pos-right, mul-one, mul-right-comm, mul-assoc, mod-eq-of-lt, eq-of-mul-eq-mul-right}
 use native.Mathlib.Decide.{decLt}
 use native.Mathlib.Omega.{arith}
-use borrow.Author.Tests.{ne-eqb, le-leb, lt-leb}
+use borrow.Author.Tests.{eq-eqb, eqb-true, ne-eqb, le-leb, lt-leb}
 use lib.Dec.{T, eqb, leb}
 use lib.IntN.{pos, natAbs}
 use lib.Ieee.{Float, nan, inf, fin, binary64, up, down, odd, ofFields, ofBits, toBits, fits, isNan, ne}
@@ -18,7 +18,7 @@ use lib.Pow.{pow-add, pow-pos, pow-mono}
 use mir.Syntax.{w64}
 use mir.Val.{SFits, toZ}
 use Rattle.laws.specs.Nearest.{withSign}
-use Rattle.laws.proofs.Tests.{choice-false}
+use Rattle.laws.proofs.Tests.{choice-false, tests-agree}
 use Rattle.laws.proofs.Parts.{small-fits}
 use Rattle.laws.proofs.Expressions.{_∋_, ⊝_}
 use Rattle.laws.proofs.Machine.{Fit, machine, machine-is}
@@ -157,8 +157,15 @@ module _ (s : Bool) (field digits : ℕ) (low : digits < 2 ^ 52) where
     pub large-sample : sampleOf sized ≡ withSign s (closest (2 ^ 52 + digits) (2 ^ k))
     large-sample = sample-by-value s (2 ^ 52 + digits) (2 ^ k) (pow-pos k) sized (value-below s digits field k sum some)
 
-    pub large-fraction : hasFraction sized ≡ not (eqb ((2 ^ 52 + digits) % 2 ^ k) 0)
-    large-fraction = fraction-by-value s (2 ^ 52 + digits) (2 ^ k) (pow-pos k) sized (value-below s digits field k sum some)
+    -- the rest may be scaled
+    pub large-fraction : {u : ℕ} → 0 < u → hasFraction sized ≡ not (eqb ((2 ^ 52 + digits) % 2 ^ k * u) 0)
+    large-fraction {u} scale =
+        let r : ℕ = (2 ^ 52 + digits) % 2 ^ k in
+        fraction-by-value s (2 ^ 52 + digits) (2 ^ k) (pow-pos k) sized (value-below s digits field k sum some)
+        ∙ ap not
+        (tests-agree (eqb r 0) (eqb (r * u) 0)
+        (λ none. eq-eqb (r * u) 0 (ap (λ (t : ℕ). t * u) (eqb-true r 0 none) ∙ zero-mul u))
+        (λ none. eq-eqb r 0 (eq-of-mul-eq-mul-right u scale r 0 (eqb-true (r * u) 0 none ∙ sym (zero-mul u)))))
 
 -- every subnormal is 0, and has a fraction
 pub subnormal-is-nought : (s : Bool) (digits : ℕ) → 0 < digits → digits < 2 ^ 52 → (readingNumber (ofFields binary64 s 0 digits) ≡ 0)

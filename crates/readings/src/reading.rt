@@ -2,7 +2,7 @@
 // with, so that the caller's rounding direction and what becomes of subnormals have no say.
 ghost use mathlib.Core.Path.{_≡_};
 ghost use mathlib.Core.Bool.{Bool, cond};
-ghost use Prim.Native.Nat.{_+_, _*_, _^_, _≤_, _<_};
+ghost use Prim.Native.Nat.{_+_, _-_, _*_, _%_, _^_, _≤_, _<_};
 ghost use lib.Ieee.{binary64, ofFields};
 ghost use lib.Ieee.Nearest.{closest};
 ghost use Rattle.laws.specs.Nearest.{withSign};
@@ -15,7 +15,9 @@ const LEAD: u64 = 0x10_0000_0000_0000;
 // The bits of 2^40, the range's end.
 const END: u64 = 0x4270_0000_0000_0000;
 // The exponent's field of a half; from there on a size is its digits over 2^(1075 - field).
-const HALF: u64 = 1022;
+const FIELD_OF_A_HALF: u64 = 1022;
+// A half as `rest` tells it, in parts of 2^-64.
+const HALF: u64 = 0x8000_0000_0000_0000;
 
 // 0 for a sample, 3 beyond the range, 4 for what is not a number. Sizes are in the order of their bits.
 pub(crate) fn number_of(x: f64) -> u64
@@ -60,7 +62,7 @@ fn nearest(field: u64, digits: u64) -> u64
     requires { ⌜ (field * 2 ^ 52 + digits ≤ 1063 * 2 ^ 52) × (digits < 2 ^ 52) ⌝ }
     ensures { λ r. ⌜ ((s : Bool) → sampleOf (ofFields binary64 s field digits) ≡ withSign s r) ⌝ }
 {
-    if field < HALF {
+    if field < FIELD_OF_A_HALF {
         return 0;
     }
     rounded(LEAD + digits, 1075 - field)
@@ -71,17 +73,28 @@ fn has_fraction(field: u64, digits: u64) -> bool
     requires { ⌜ (field * 2 ^ 52 + digits ≤ 1063 * 2 ^ 52) × (digits < 2 ^ 52) ⌝ }
     ensures { λ r. ⌜ ((s : Bool) → hasFraction (ofFields binary64 s field digits) ≡ r) ⌝ }
 {
-    if field < HALF {
+    if field < FIELD_OF_A_HALF {
         return field + digits != 0;
     }
-    (LEAD + digits) % (1 << (1075 - field)) != 0
+    rest(LEAD + digits, 1075 - field) != 0
 }
 
-// n / 2^k to the nearest whole number, on a tie to the even one: more than a half carries, and a half itself where the whole part is odd.
+// n / 2^k to the nearest whole number, on a tie to the even one: a rest above a half makes one more, and so does a half where the whole part is odd.
 fn rounded(n: u64, k: u64) -> u64
-    requires { ⌜ (n < 2 ^ 53) × (1 ≤ k) × (k ≤ 53) ⌝ }
+    requires { ⌜ (n < 2 ^ 53) × (1 ≤ k) × (k < 64) ⌝ }
     ensures { λ r. ⌜ r ≡ closest n (2 ^ k) ⌝ }
 {
-    let half = 1 << (k - 1);
-    (n + (half - 1) + (n >> k) % 2) >> k
+    let whole = n >> k;
+    if HALF - whole % 2 < rest(n, k) {
+        return whole + 1;
+    }
+    whole
+}
+
+// What n / 2^k has after the point, in parts of 2^-64: the low k bits, moved to the top.
+fn rest(n: u64, k: u64) -> u64
+    requires { ⌜ (1 ≤ k) × (k < 64) ⌝ }
+    ensures { λ r. ⌜ r ≡ n % 2 ^ k * 2 ^ (64 - k) ⌝ }
+{
+    n << (64 - k)
 }

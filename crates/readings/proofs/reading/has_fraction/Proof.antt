@@ -1,10 +1,11 @@
 -- `readings::reading::has_fraction` meets its contract.
 use borrow.Author.Needs.{needs}
-use mathlib.Core.Path.{_≡_, sym, ap, _∙_}
-use Prim.Native.Nat.{_-_, _*_, _%_, _^_}
+use mathlib.Core.Path.{sym, ap, _∙_}
+use mathlib.Core.Bool.{not}
+use Prim.Native.Nat.{ℕ}
 use native.Mathlib.Omega.{arith}
+use lib.Dec.{eqb}
 use lib.Pow.{pow-pos}
-use Rattle.laws.proofs.Halves.{bit-of-word}
 use Rattle.readings.proofs.BitLaws.{small-fraction, large-fraction}
 use Rattle.readings.proofs.reading.has_fraction.Statement.{statement}
 use Rattle.readings.proofs.reading.has_fraction.Tie as tie
@@ -15,24 +16,20 @@ add-result c = search needs
 returns : tie.Need-returns
 returns c s = small-fraction s _ _ (c .before .pre .1) (omega arith)
 
-add-result-2 : tie.Need-add-result-2
-add-result-2 c = search needs
+add-rest : tie.Need-add-rest
+add-rest c = search needs
 
-sub-result : tie.Need-sub-result
-sub-result c = search needs
+sub-rest : tie.Need-sub-rest
+sub-rest c = search needs
 
-shl-result : tie.Need-shl-result
-shl-result c = search needs
-
-unit-is : (c : tie.Else1) → 1 * 2 ^ (1075 - c .before .args .field) % 2 ^ 64 ≡ 2 ^ (1075 - c .before .args .field)
-unit-is c = bit-of-word 64 (1075 - c .before .args .field) (omega (arith, c .before .pre))
-
-rem-result : tie.Need-rem-result
-rem-result c = omega (arith, unit-is c, pow-pos (1075 - c .before .args .field))
+rest-requires : tie.Need-rest-requires
+rest-requires c κs = search needs
 
 returns-2 : tie.Need-returns-2
-returns-2 c s = rw (unit-is c) (large-fraction s _ _ (c .before .pre .1) _ (omega arith) (omega arith))
+returns-2 c s =
+    let start = c .before .before in
+    large-fraction s _ _ (start .pre .1) _ (omega arith) (omega arith) (pow-pos _) ∙ ap (λ (n : ℕ). not (eqb n 0)) (sym (c .rest .ensures))
 
 pub has-fraction-spec : {M : Type 1} → statement M
 has-fraction-spec =
-    tie.close (tie.spec add-result returns add-result-2 sub-result shl-result rem-result returns-2)
+    tie.close (tie.spec add-result returns add-rest sub-rest rest-requires returns-2)
