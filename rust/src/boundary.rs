@@ -11,7 +11,8 @@
 //!
 //! - a pointer is not null, is aligned for its type, and is good for as many entries as the length beside it says, also where that length is 0;
 //!   what is only read (samples, readings, bytes, values) has been given values;
-//! - a buffer that the call may write overlaps no other buffer of the same call, and nobody else uses it before the call returns.
+//! - a buffer that the call may write overlaps no other buffer of the same call, and nobody else uses it before the call returns;
+//! - floating-point exceptions are masked, as they are where every program starts. The modes are the caller's own, and change no bit of an answer.
 
 /// A whole number of 128 bits: high * 2^64 + low.
 #[repr(C)]

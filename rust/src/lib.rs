@@ -30,7 +30,8 @@
 #![deny(missing_docs)]
 
 // Every call of the library in this crate is sound: it keeps no state and calls nothing, and a slice meets all that it asks of a pointer and a
-// length. It is not null, aligned, good for its length and, if it is lent for writing, lent to nobody else.
+// length. It is not null, aligned, good for its length and, if it is lent for writing, lent to nobody else. Floating-point exceptions are masked in
+// every Rust program.
 pub mod boundary;
 
 mod file;

@@ -2,7 +2,7 @@
 -- crates/laws/specs/Single.antt) where the call is answered, which Grounds.antt tells exactly; what is promised of a result stands in
 -- specs/Promises.antt. The exported functions have the same contracts (Condition1.antt, NAME-is), or tell the same answers in numbers (NAME-tells).
 use mathlib.Core.Path.{_≡_, refl, _∙_}
-use mathlib.Core.Bool.{Bool, cond}
+use mathlib.Core.Bool.{Bool}
 use mathlib.Core.List.{List, [], _∷_}
 use Prim.Native.Nat.{ℕ, _+_, _-_, _*_, _/_, _%_, _^_, _≤_, _<_}
 use native.Mathlib.Omega.{arith}
@@ -11,7 +11,7 @@ use lib.Dec.{T}
 use lib.Ieee.{nan}
 use lib.Ieee.Exact.{HasValue}
 use lib.Ieee.Positive.{positive}
-use lib.IntN.{ℤ, pos, negsuc, negℤ, _+ℤ_, _-ℤ_, _*ℤ_}
+use lib.IntN.{ℤ, pos, negsuc, _+ℤ_, _-ℤ_, _*ℤ_}
 use lib.ListN.{length, getD, take}
 use Rattle.laws.specs.Greatest.{Greatest}
 use Rattle.laws.specs.Lists.{at}

@@ -13,7 +13,7 @@ use lib.Ieee.{Float, nan}
 use lib.Ieee.Exact.{HasValue}
 use lib.Ieee.Nearest.{closest}
 use lib.Ieee.Positive.{positive}
-use lib.IntN.{ℤ, pos, negℤ, natAbs, _+ℤ_, _-ℤ_, _*ℤ_}
+use lib.IntN.{ℤ, pos, natAbs, _+ℤ_, _-ℤ_, _*ℤ_}
 use lib.ListN.{length, getD, take}
 use lib.Seq.{take-at}
 use lib.Signed.{_≤ℤ_, _<ℤ_}

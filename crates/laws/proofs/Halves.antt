@@ -3,11 +3,11 @@ use mathlib.Core.Path.{_≡_, refl, sym, ap, ap₂, _∙_}
 use mathlib.Core.Bool.{true, false}
 use Prim.Native.Nat.{ℕ, zero, suc, _+_, _-_, _*_, _/_, _%_, _^_, _≤_, _<_}
 use native.Mathlib.Decide.{decLe, decLt}
-use native.Mathlib.Nat.{one-mul, mul-lt-mul-of-pos-right, mod-lt, mod-eq-of-lt, mod-add-mod, mul-pos, mul-le-mul, mul-le-mul-left, mul-le-mul-right, div-add-mod', div-eq-of-lt-le, div-lt-iff-lt-mul, le-mul-of-pos-right, two-pow-succ}
+use native.Mathlib.Nat.{mod-lt, mul-lt-mul-of-pos-right, mod-add-mod, mul-pos, mul-le-mul, mul-le-mul-left, mul-le-mul-right, div-add-mod', div-eq-of-lt-le, div-lt-iff-lt-mul, le-mul-of-pos-right, two-pow-succ}
 use native.Mathlib.Omega.{arith}
 use borrow.Author.Tests.{le-leb, lt-leb}
 use lib.Dec.{leb}
-use lib.Pow.{pow-pos, pow-lt}
+use lib.Pow.{pow-pos}
 
 -- ---- one quotient and one remainder
 module _ (n d q r : ℕ) (below : r < d) (split : n ≡ q * d + r) where
@@ -208,13 +208,7 @@ pub one-digit-quotient : (b rest l d : ℕ) → rest < d → l < b → (rest * b
 one-digit-quotient b rest l d below low =
     high-part-below b d (rest * b + l) (omega arith) (omega (arith, mul-le-mul-right b below))
 
--- ---- powers of two
-
--- a word with one bit
-pub bit-of-word : (w k : ℕ) → k < w → 1 * 2 ^ k % 2 ^ w ≡ 2 ^ k
-bit-of-word w k below = ap (λ (t : ℕ). t % 2 ^ w) (one-mul (2 ^ k)) ∙ mod-eq-of-lt (pow-lt below)
-
--- at a width one less
+-- ---- powers of two, at a width one less
 pub power-doubles : (k : ℕ) → 0 < k → 2 ^ k ≡ 2 * 2 ^ (k - 1)
 power-doubles zero some = absurd (omega arith)
 power-doubles (suc k) some =

@@ -1,7 +1,7 @@
 -- A fraction a / d to the nearest whole number, on a tie to the even one: its three cases, how one test decides, what it means, and that one number is
 -- meant.
-use mathlib.Core.Path.{_≡_, refl, sym, ap, _∙_, subst}
-use mathlib.Core.Bool.{Bool, true, false, not, cond}
+use mathlib.Core.Path.{_≡_, refl, ap, _∙_, subst}
+use mathlib.Core.Bool.{Bool, true, false, not}
 use Prim.Native.Nat.{ℕ, zero, suc, _+_, _-_, _*_, _/_, _%_, _≤_, _<_, compare, Ordering, Ordering·lt, Ordering·eq, Ordering·gt}
 use native.Mathlib.Nat.{mod-lt, mul-pos, mul-le-mul-right, div-add-mod'}
 use native.Mathlib.Decide.{decLe}

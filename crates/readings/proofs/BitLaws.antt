@@ -1,17 +1,16 @@
 -- A double by its bits, as the code takes it apart: the exponent's field and the digits below the leading one tell its exact value, and with it the
 -- number, the sample and the fraction.
 use mathlib.Core.Path.{_≡_, refl, sym, ap, _∙_, subst}
-use mathlib.Core.Bool.{Bool, true, false, not, cond, true≢false}
+use mathlib.Core.Bool.{Bool, true, false, not, cond}
 use Prim.Native.Nat.{ℕ, zero, suc, _+_, _-_, _*_, _/_, _%_, _^_, _≤_, _<_}
-use native.Mathlib.Nat.{zero-mul, le-mul-of-pos-right, mul-one, mul-right-comm, mul-assoc, mod-eq-of-lt, eq-of-mul-eq-mul-right}
+use native.Mathlib.Nat.{zero-mul, le-mul-of-pos-right, mul-one, mul-assoc, mod-eq-of-lt, eq-of-mul-eq-mul-right}
 use native.Mathlib.Decide.{decLt}
 use native.Mathlib.Omega.{arith}
 use borrow.Author.Tests.{eq-eqb, eqb-true, ne-eqb, le-leb, lt-leb}
 use lib.Dec.{T, eqb, leb}
 use lib.IntN.{pos, natAbs}
-use lib.Ieee.{Float, nan, inf, fin, binary64, up, down, odd, ofFields, ofBits, toBits, fits, isNan, ne}
+use lib.Ieee.{Float, nan, inf, fin, binary64, up, down, odd, ofFields, ofBits, toBits, fits, isNan}
 use lib.Ieee.Bits.{ofBits-toBits}
-use lib.Ieee.Compare.{differs-from-itself}
 use lib.Ieee.Exact.{HasValue, odd-sign}
 use lib.Ieee.Nearest.{closest}
 use lib.Pow.{pow-add, pow-pos, pow-mono}

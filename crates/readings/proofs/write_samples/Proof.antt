@@ -1,7 +1,7 @@
 -- `readings::write_samples` meets its contract. The loop's invariant: the first `i` samples are written, and the fractions before `i` are counted.
 use mathlib.Core.Path.{_≡_, refl, ap, _∙_}
 use mathlib.Core.Bool.{Bool, true, false, cond}
-use Prim.Native.Nat.{ℕ, _≤_, _-_, _+_}
+use Prim.Native.Nat.{_≤_, _-_, _+_}
 use native.Mathlib.Omega.{arith}
 use lib.Ieee.{nan}
 use lib.ListN.{length, length-set, drop, getD}
