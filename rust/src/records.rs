@@ -2,7 +2,7 @@
 
 use crate::boundary::{self, CountAnswer};
 use crate::refusals::{answered, Refusal};
-use crate::sums::{part_of, Sum};
+use crate::sums::{due_part_of, part_of, Sum};
 
 /// Drift as P over R, in picoseconds per basic interval squared. With h the whole part of (N-1)/2, three samples decide P, as far apart as the record
 /// allows: the first, one in the middle, and the last or, where N is even, the last but one.
@@ -19,8 +19,8 @@ pub struct Drift {
 #[must_use]
 #[derive(Clone, Copy, Debug, PartialEq, Eq)]
 pub struct FloatSums {
-    /// The Allan sum A with its count K. It is always due.
-    pub allan: Option<Sum>,
+    /// The Allan sum A with its count K: below 2m+1 readings the call is refused.
+    pub allan: Sum,
     /// The modified sum B with its count C; none below 3m readings.
     pub modified: Option<Sum>,
     /// How many readings had a fraction. Where it is 0, every sample is its reading exactly.
@@ -81,5 +81,5 @@ pub fn remove_drift(samples: &[i64], buffer: &mut [i64]) -> Result<usize, Refusa
 pub fn float_sums(readings: &[f64], m: u64, buffer: &mut [i64]) -> Result<FloatSums, Refusal> {
     let answer = unsafe { boundary::plg_float_sums(readings.as_ptr(), readings.len(), m, buffer.as_mut_ptr(), buffer.len()) };
     answered(answer.number, answer.place)?;
-    Ok(FloatSums { allan: part_of(answer.allan), modified: part_of(answer.modified), changed: answer.changed })
+    Ok(FloatSums { allan: due_part_of(answer.allan), modified: part_of(answer.modified), changed: answer.changed })
 }

@@ -38,9 +38,14 @@ fn sum_of(answer: SumAnswer) -> Result<Sum, Refusal> {
     Ok(Sum { total: answer.sum.into(), count: answer.count })
 }
 
+/// A part that is due.
+pub(crate) fn due_part_of(part: Part) -> Sum {
+    Sum { total: part.sum.into(), count: part.count }
+}
+
 /// A part's own number is 0, or 1 where it is not due.
 pub(crate) fn part_of(part: Part) -> Option<Sum> {
-    (part.number == 0).then(|| Sum { total: part.sum.into(), count: part.count })
+    (part.number == 0).then(|| due_part_of(part))
 }
 
 pub(crate) fn sums_of(answer: SumsAnswer) -> Result<Sums, Refusal> {

@@ -237,7 +237,7 @@ impl Values for ploegelster::Sums {
 impl Values for ploegelster::FloatSums {
     const LENGTH: usize = 9;
     fn values(&self) -> Vec<u64> {
-        [part(self.allan.as_ref()), part(self.modified.as_ref()), vec![self.changed]].concat()
+        [part(Some(&self.allan)), part(self.modified.as_ref()), vec![self.changed]].concat()
     }
 }
 
