@@ -44,7 +44,7 @@ use Rattle.drift.proofs.drift_figure.Reads as drift-figure
 use Rattle.drift.proofs.drift_figure.Kinds as drift-figure-kinds
 use Rattle.drift.proofs.remove_drift.Reads as remove-drift
 use Rattle.drift.proofs.remove_drift.Kinds as remove-drift-kinds
-use Rattle.readings.specs.Readings.{Nearest}
+use Rattle.readings.specs.Readings.{Nearest, Exactly}
 use Rattle.readings.proofs.float_sums.Reads as float-sums
 use Rattle.readings.proofs.float_sums.Kinds as float-sums-kinds
 use Rattle.plot.specs.Drawn.{plusZero, GreatestDouble}
@@ -94,7 +94,7 @@ use Rattle.acceptance.proofs.TypeGrounds.{type-agrees, bars-agree, alph
 use Rattle.acceptance.proofs.RecordTypeGrounds.{record-type-agrees}
 use Rattle.acceptance.proofs.FileGrounds.{writing-agrees, reading-agrees}
 use Rattle.acceptance.proofs.Grounds.{allan-sum-grounds, modified-sum-grounds, allan-fraction-grounds, time-fraction-grounds, allan-deviation-grounds, time-deviation-grounds, phase-from-frequency-grounds, frequency-from-phase-grounds, drift-figure-grounds, remove-drift-grounds, float-sums-grounds, drawn-number-grounds, allan-dot-grounds, time-dot-grounds, noise-type-grounds, noise-of-record-grounds, plg-noise-type-grounds, plg-noise-of-record-grounds, bars-grounds, plg-bars-grounds, read-file-grounds, write-file-grounds}
-use Rattle.acceptance.proofs.PromiseLaws.{allan-sum-of, modified-sum-of, phases-of, differences-of, differences-left, back-and-forth, square-of-half, drift-of, divisor-some, result-of, drift-removed, one-result, same-slope, constant-slope, line-left, float-sums-of, one-nearest, whole-samples-of, reads-files-alone, reads-every-file, count-of, output-left, file-left, one-value-unrefused, written-proper, reads-back, drawn-of, dot-told, allan-dot-of, time-dot-of, allan-fraction-of, time-fraction-of, allan-deviation-of, time-deviation-of, allan-deviation-of-record, time-deviation-of-record, type-of, noise-of, bars-of, half-below-deviation, low-above-nought}
+use Rattle.acceptance.proofs.PromiseLaws.{allan-sum-of, modified-sum-of, phases-of, differences-of, differences-left, back-and-forth, square-of-half, drift-of, divisor-some, result-of, drift-removed, one-result, same-slope, constant-slope, line-left, float-sums-of, one-nearest, unchanged-samples-of, whole-samples-of, reads-files-alone, reads-every-file, count-of, output-left, file-left, one-value-unrefused, written-proper, reads-back, drawn-of, dot-told, allan-dot-of, time-dot-of, allan-fraction-of, time-fraction-of, allan-deviation-of, time-deviation-of, allan-deviation-of-record, time-deviation-of-record, type-of, noise-of, bars-of, half-below-deviation, low-above-nought}
 use Rattle.acceptance.proofs.Figures.{starred-figures}
 
 -- ---- the published sums: x the record, N its length, m the factor
@@ -206,6 +206,14 @@ pub float-samples-alone : Always 2 float-sums-kinds.ps float-sums-kinds.r float-
 float-samples-alone κs args z w is answered =
     let nothing = answered-none (readings-agree _ _ _) (float-sums-grounds κs args z w is) answered in
     rw (is .1) (one-nearest (args .1 .0) (now (args .0)) (now (args .1 .1 .0)) nothing)
+
+-- Where no reading was changed, each is its sample exactly.
+pub float-samples-unchanged : Always 2 float-sums-kinds.ps float-sums-kinds.r float-sums.Post
+    (λ κs args z w. let xs = now (args .0) in let left = w .1 .1 .0 in
+    z .number ≡ 0 → z .changed ≡ 0 → (k : ℕ) → k < length xs → Exactly (getD xs k nan) (at left k))
+float-samples-unchanged κs args z w is answered none =
+    let nothing = answered-none (readings-agree _ _ _) (float-sums-grounds κs args z w is) answered in
+    rw (is .1) (unchanged-samples-of (args .1 .0) (now (args .0)) (now (args .1 .1 .0)) nothing (rw (is .0) at none))
 
 -- By its sign and its size: a whole reading of size n becomes n, or -n.
 pub float-samples-published : Always 2 float-sums-kinds.ps float-sums-kinds.r float-sums.Post

@@ -3,7 +3,7 @@ use mathlib.Core.Path.{_≡_, refl, sym, ap, _∙_, subst}
 use mathlib.Core.Bool.{Bool, true, false, cond}
 use mathlib.Core.List.{List, [], _∷_}
 use mathlib.Core.Logic.{inl, inr}
-use Prim.Native.Nat.{ℕ, suc, _+_, _-_, _*_, _/_, _%_, _^_, _≤_, _<_, _∣_}
+use Prim.Native.Nat.{ℕ, zero, suc, _+_, _-_, _*_, _/_, _%_, _^_, _≤_, _<_, _∣_}
 use native.Mathlib.Nat.{zero-add, mul-one, mul-le-mul}
 use native.Mathlib.Numerals.{one-add}
 use native.Mathlib.Omega.{arith}
@@ -51,7 +51,7 @@ use Rattle.variances.proofs.FractionLaws.{lowestTerms, lowest-same-value, lowes
 use Rattle.variances.proofs.DeviationLaws.{deviation-is-greatest}
 use Rattle.variances.proofs.AnswerLaws.{deviationRefusal, givenDeviation, largeRefusal, allan-fraction-given, time-fraction-given, allan-deviation-given, time-deviation-given}
 use Rattle.variances.proofs.Bounds.{allan-allowed, allan-deviation-within, modified-allowed, time-deviation-within}
-use Rattle.readings.specs.Readings.{readingNumber, sampleOf, hasFraction, Nearest}
+use Rattle.readings.specs.Readings.{readingNumber, sampleOf, hasFraction, Nearest, Exactly}
 use Rattle.readings.specs.Answers.{floatRefusal, floatAnswer}
 use Rattle.readings.proofs.AnswerLaws.{floatBuffer}
 use Rattle.readings.proofs.ReadingLaws.{sample-by-value, sample-nearest, nearest-is-sample, fraction-not-exact, sample-exact}
@@ -293,6 +293,13 @@ changed-of (x ∷ xs) sound = by-fraction (hasFraction x) refl (changed-of xs (�
     by-fraction true t rest = rw (one-add (howMany hasFraction xs)) (Promises.changed (fraction-not-exact x t (sampleOf x)) rest)
     by-fraction false t rest = rw (zero-add (howMany hasFraction xs)) (Promises.kept (sample-exact x (sound 0 (omega arith)) t) rest)
 
+-- where none was changed, each reading is its sample exactly
+none-changed : {xs : List Float} {zs : List ℤ} {n : ℕ} → Changed xs zs n → n ≡ 0 → (k : ℕ) → k < length xs → Exactly (getD xs k nan) (at zs k)
+none-changed Promises.no-reading none k inside = absurd (omega arith)
+none-changed (Promises.kept exact rest) none zero inside = exact
+none-changed (Promises.kept exact rest) none (suc k) inside = none-changed rest none k (omega arith)
+none-changed (Promises.changed other rest) none k inside = absurd (omega arith)
+
 module _ (m : ℕ) (xs : List Float) (buffer : List ℤ) (nothing : floatRefusal m xs (length buffer) ≡ none) where
   abbrev samples : List ℤ
   samples = floatBuffer m xs buffer
@@ -327,6 +334,9 @@ module _ (m : ℕ) (xs : List Float) (buffer : List ℤ) (nothing : floatRefusal
 
   pub one-nearest : (k : ℕ) → k < length xs → (y : ℤ) → Nearest (getD xs k nan) y → y ≡ at samples k
   one-nearest k inside y nearest = nearest-is-sample _ y nearest ∙ sym (sample-left k inside)
+
+  pub unchanged-samples-of : floatAnswer m xs (length buffer) .changed ≡ 0 → (k : ℕ) → k < length xs → Exactly (getD xs k nan) (at samples k)
+  unchanged-samples-of none k inside = rw (sample-left k inside, ← sample-at xs k) (none-changed float-changed none k inside)
 
   -- a whole reading is its own nearest number
   pub whole-samples-of : (k : ℕ) → k < length xs → (s : Bool) (n : ℕ) → HasValue (getD xs k nan) s n 1 → at samples k ≡ withSign s n
