@@ -10,3 +10,5 @@ pub mod Polynomials
 pub mod SumLaws
 pub mod LatestLaws
 pub mod RingLaws
+pub mod Words
+pub mod Squares

@@ -1,8 +1,8 @@
--- Laws of sums over a range: one term more, terms that agree, a range in two parts, the first term apart, two sums, a factor, and bounds; of
--- signed numbers also neighbours that cancel and a window that slides.
+-- Laws of sums over a range: one term more, terms that agree, a range in two parts and in blocks, the first term apart, two sums, a factor, and
+-- bounds; of signed numbers also neighbours that cancel and a window that slides.
 use mathlib.Core.Path.{_≡_, refl, sym, _∙_, ap, ap₂}
 use Prim.Native.Nat.{ℕ, zero, suc, _+_, _*_, _<_, _≤_}
-use native.Mathlib.Nat.{add-zero, add-suc, le-refl, le-trans}
+use native.Mathlib.Nat.{add-zero, add-suc, zero-mul, le-refl, le-trans}
 use native.Mathlib.Numerals.{add-one}
 use native.Mathlib.Omega.{arith}
 use lib.IntN.{ℤ, pos, natAbs, _+ℤ_, _-ℤ_, _*ℤ_, +ℤ-idr, +ℤ-idl, +ℤ-assoc, +ℤ-invr, *ℤ-zero}
@@ -47,6 +47,18 @@ pub sum-split : (m n : ℕ) (f : ℕ → ℕ) → sum (m + n) f ≡ sum m f + su
 unfolding sum
 sum-split m zero f = rw (add-zero m) (omega arith)
 sum-split m (suc n) f = rw (add-suc m n) (omega (arith, sum-split m n f))
+
+-- a range in q blocks of b terms
+pub sum-in-blocks : (b q : ℕ) (f : ℕ → ℕ) → sum (q * b) f ≡ sum q (λ k. sum b (λ i. f (k * b + i)))
+unfolding sum
+sum-in-blocks b zero f = rw (zero-mul b)
+sum-in-blocks b (suc q) f =
+    let more : suc q * b ≡ q * b + b = omega arith in
+    rw more (omega (arith, sum-split (q * b) b f, sum-in-blocks b q f))
+
+-- in blocks, and r terms more
+pub sum-in-blocks-and-rest : (b q r : ℕ) (f : ℕ → ℕ) → sum (q * b + r) f ≡ sum q (λ k. sum b (λ i. f (k * b + i))) + sum r (λ i. f (q * b + i))
+sum-in-blocks-and-rest b q r f = sum-split (q * b) r f ∙ ap (λ (t : ℕ). t + sum r (λ i. f (q * b + i))) (sum-in-blocks b q f)
 
 -- the first term apart
 pub sum-first : (n : ℕ) (f : ℕ → ℕ) → sum (n + 1) f ≡ f 0 + sum n (λ i. f (i + 1))

@@ -1,0 +1,74 @@
+-- Signed numbers as words of 64 bits: the word that two tests and a cast make of a number, the word of a number that is moved up, and the bits of many
+-- words gathered in one.
+use mathlib.Core.Path.{_≡_, refl, _∙_}
+use mathlib.Core.Bool.{true, false}
+use Prim.Native.Nat.{ℕ, suc, _+_, _-_, _*_, _%_, _^_, _≤_, _<_}
+use native.Mathlib.Omega.{arith}
+use lib.Bits.{bitOr, bitAnd, or-add-and, and-le-l, and-le-r}
+use lib.Dec.{T}
+use lib.IntN.{ℤ, pos, negsuc, natAbs}
+use lib.Signed.{ltZ, nonNeg}
+use mir.Syntax.{w64}
+use mir.Val.{SFits, Fits, toZ, ofZ}
+use Rattle.laws.proofs.Parts.{plus, minus, one-part, parts-of-fits}
+use Rattle.laws.proofs.Expressions.{Expression, $_, #_, _⊕_, _⊖_, _⊏_, _⊑_}
+use Rattle.laws.proofs.Machine.{Fit, machine, lt-taken, lt-left, cast-is, cast-fits}
+
+-- ---- the word of a number by its parts
+
+word-below : (z : ℤ) → plus z < minus z → ofZ w64 z ≡ 2 ^ 64 - minus z
+word-below (pos n) h = absurd (omega arith)
+word-below (negsuc n) h = refl
+
+word-above : (z : ℤ) → minus z ≤ plus z → plus z ≡ ofZ w64 z
+word-above (pos n) h = refl
+word-above (negsuc n) h = absurd (omega arith)
+
+-- ---- the word of a number z below nought is 2^64 - 1 - (-(z + 1)), and of another the number itself
+
+abbrev pub pastNought : ℤ → Expression
+pastNought z = # 0 ⊖ ($ z ⊕ # 1)
+
+module _ (z : ℤ) (fits : SFits w64 z) where
+  module _ (below : ltZ (toZ w64 (ofZ w64 z)) (pos 0) ≡ true) where
+    under : $ z ⊏ # 0
+    under = lt-taken w64 ($ z) (# 0) fits (omega arith) below
+
+    pub past-nought-fits : Fit w64 (pastNought z)
+    past-nought-fits = omega (arith, under, parts-of-fits fits)
+
+    pub past-nought-cast : T (nonNeg (machine w64 (pastNought z))) × Fits w64 (natAbs (machine w64 (pastNought z)))
+    past-nought-cast = cast-fits w64 w64 (pastNought z) past-nought-fits (omega (arith, under, parts-of-fits fits, one-part z))
+
+    past-nought-is : natAbs (machine w64 (pastNought z)) ≡ minus z - 1
+    past-nought-is = cast-is w64 (pastNought z) (minus z - 1) past-nought-fits (omega (arith, under, one-part z))
+
+    pub past-nought-within : natAbs (machine w64 (pastNought z)) ≤ 2 ^ 64 - 1
+    past-nought-within = omega (arith, past-nought-cast .1)
+
+    pub below-nought-word : 2 ^ 64 - 1 - natAbs (machine w64 (pastNought z)) ≡ ofZ w64 z
+    below-nought-word = omega (arith, past-nought-is, under, one-part z, word-below z (omega (arith, under)))
+
+  module _ (above : ltZ (toZ w64 (ofZ w64 z)) (pos 0) ≡ false) where
+    over : # 0 ⊑ $ z
+    over = lt-left w64 ($ z) (# 0) fits (omega arith) above
+
+    pub above-nought-cast : T (nonNeg (machine w64 ($ z))) × Fits w64 (natAbs (machine w64 ($ z)))
+    above-nought-cast = cast-fits w64 w64 ($ z) fits (omega (arith, over, parts-of-fits fits))
+
+    pub above-nought-word : natAbs (machine w64 ($ z)) ≡ ofZ w64 z
+    above-nought-word = cast-is w64 ($ z) (plus z) fits (omega (arith, over, one-part z)) ∙ word-above z (omega (arith, over))
+
+-- ---- a number whose word, moved up by c modulo 2^64, is at most 2c lies within c
+
+pub moved-up-within : (c : ℕ) → c ≤ 2 ^ 62 → (z : ℤ) → SFits w64 z → (ofZ w64 z + c) % 2 ^ 64 ≤ 2 * c → natAbs z ≤ c
+moved-up-within c small (pos n) fits below = omega (arith, fits .sfits)
+moved-up-within c small (negsuc n) fits below = omega (arith, fits .sfits)
+
+-- ---- the bits of two words in one: it is at least either
+
+pub or-reaches-left : (a b : ℕ) → a ≤ bitOr a b
+or-reaches-left a b = omega (arith, or-add-and a b, and-le-r a b)
+
+pub or-reaches-right : (a b : ℕ) → b ≤ bitOr a b
+or-reaches-right a b = omega (arith, or-add-and a b, and-le-l a b)
