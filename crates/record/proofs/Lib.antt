@@ -1,4 +1,5 @@
 pub mod RangeLaws
 pub mod RefusalLaws
+pub mod SurePass
 pub mod AnswerLaws
 pub mod Unique

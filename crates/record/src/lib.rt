@@ -1,7 +1,11 @@
 // The limits of records, the refusal numbers, and the checks that entries share. What is worked from a record is left to others.
 
 ghost use mathlib.Core.Path.{_≡_};
-ghost use Rattle.record.specs.Refusals.{inRange, rangeRefusal, sizeRefusal, recordRefusal};
+ghost use mathlib.Core.Bool.{true};
+ghost use Prim.Native.Nat.{_+_, _%_, _^_};
+ghost use mir.Syntax.{w64};
+ghost use mir.Val.{ofZ};
+ghost use Rattle.record.specs.Refusals.{none, inRange, rangeRefusal, sizeRefusal, recordRefusal};
 
 // A phase sample lies within this many picoseconds either way: 2^40.
 pub const LARGEST_SAMPLE: i64 = 1099511627776;
@@ -68,21 +72,13 @@ pub fn in_range(x: i64) -> bool
 pub fn range_refusal(samples: &[i64]) -> Refusal
     ensures { λ r. ⌜ r ≡ rangeRefusal (now (samples .entry)) ⌝ }
 {
-    let mut i: usize = 0;
-    while i < samples.len() {
-        if in_range(samples[i]) {
-            i += 1;
-        } else {
-            return Refusal {
-                number: OUT_OF_RANGE,
-                place: i as u64,
-            };
-        }
+    if surely_in_range(samples) {
+        return Refusal {
+            number: 0,
+            place: 0,
+        };
     }
-    Refusal {
-        number: 0,
-        place: 0,
-    }
+    first_outside(samples)
 }
 
 // 5, 2, 1: what the factor m and the number n of samples alone refuse.
@@ -140,5 +136,53 @@ pub fn refused_count(number: u64, place: u64) -> CountAnswer
         number,
         place,
         count: 0,
+    }
+}
+
+// What moves a sample up, so that its range starts at nought: 2^40.
+const RISE: u64 = 1099511627776;
+
+// Whether every sample surely lies in its range. The pass has no way out, so that a machine works several samples at a time. A sample at the upper end
+// may leave it unsure.
+fn surely_in_range(samples: &[i64]) -> bool
+    ensures { λ r. ⌜ (r ≡ true → rangeRefusal (now (samples .entry)) ≡ none) ⌝ }
+{
+    let mut reached: u64 = 0;
+    let mut i: usize = 0;
+    while i < samples.len() {
+        reached = reached | moved_up(samples[i]);
+        i += 1;
+    }
+    reached <= 2 * RISE
+}
+
+// A sample's word moved up, modulo 2^64: at most twice 2^40 where the sample lies in its range.
+fn moved_up(x: i64) -> u64
+    ensures { λ r. ⌜ r ≡ (ofZ w64 x + 2 ^ 40) % 2 ^ 64 ⌝ }
+{
+    if x < 0 {
+        return std::num::wrapping_add_u64(18446744073709551615 - (0 - (x + 1)) as u64, RISE);
+    }
+    std::num::wrapping_add_u64(x as u64, RISE)
+}
+
+// 3 at the first sample outside its range, sample by sample.
+fn first_outside(samples: &[i64]) -> Refusal
+    ensures { λ r. ⌜ r ≡ rangeRefusal (now (samples .entry)) ⌝ }
+{
+    let mut i: usize = 0;
+    while i < samples.len() {
+        if in_range(samples[i]) {
+            i += 1;
+        } else {
+            return Refusal {
+                number: OUT_OF_RANGE,
+                place: i as u64,
+            };
+        }
+    }
+    Refusal {
+        number: 0,
+        place: 0,
     }
 }
