@@ -12,9 +12,11 @@ use lib.IntN.{ℤ, pos}
 use lib.ListN.{length, getD}
 use Rattle.laws.specs.Lists.{at}
 use Rattle.laws.specs.Single.{Single, Always, Settled}
-use Rattle.wide.proofs.Unique.{sum-single, at-most-single, product-low-single, product-single, size-single, with-square-single, divided-single, root-single, square-at-most-single}
+use Rattle.wide.proofs.Unique.{sum-single, difference-single, at-most-single, product-low-single, product-single, size-single, with-square-single, divided-single, root-single, square-at-most-single}
 use Rattle.wide.proofs.sum.Reads as wide-sum
 use Rattle.wide.proofs.sum.Kinds as wide-sum-kinds
+use Rattle.wide.proofs.difference.Reads as wide-difference
+use Rattle.wide.proofs.difference.Kinds as wide-difference-kinds
 use Rattle.wide.proofs.at_most.Reads as wide-at-most
 use Rattle.wide.proofs.at_most.Kinds as wide-at-most-kinds
 use Rattle.wide.proofs.product_low.Reads as wide-product-low
@@ -143,6 +145,9 @@ use Rattle.acceptance.proofs.NoughtLaws.{count-noughts, past-the-count,
 
 pub wide-sum-one-answer : Single 0 wide-sum-kinds.ps wide-sum-kinds.r wide-sum.Post
 wide-sum-one-answer = sum-single
+
+pub wide-difference-one-answer : Single 0 wide-difference-kinds.ps wide-difference-kinds.r wide-difference.Post
+wide-difference-one-answer = difference-single
 
 pub wide-at-most-one-answer : Single 0 wide-at-most-kinds.ps wide-at-most-kinds.r wide-at-most.Post
 wide-at-most-one-answer = at-most-single

@@ -1,4 +1,4 @@
--- Numbers in two halves to a base: their order, sum, product and quotient, over any base.
+-- Numbers in two halves to a base: their order, sum, difference, product and quotient, over any base.
 use mathlib.Core.Path.{_≡_, refl, sym, ap, ap₂, _∙_}
 use mathlib.Core.Bool.{true, false}
 use Prim.Native.Nat.{ℕ, zero, suc, _+_, _-_, _*_, _/_, _%_, _^_, _≤_, _<_}
@@ -123,6 +123,30 @@ module _ (b l l′ : ℕ) (low : l < b) (low′ : l′ < b) where
 
     pub high-of-sum : l ≤ (l + l′) % b → total % (b * b) / b ≡ (h + h′) % b
     high-of-sum least = high-with 0 (carries-not least) ∙ ap (λ (t : ℕ). t % b) (omega arith)
+
+-- ---- difference: what is left of the top, two digits at a time, and a difference by what is left
+pub complement-in-halves : (b h l : ℕ) → h < b → l < b → b * b - 1 - (h * b + l) ≡ (b - 1 - h) * b + (b - 1 - l)
+complement-in-halves b h l high low =
+    let whole : b - 1 - h + (h + 1) ≡ b = omega arith in
+    omega (arith, ap (λ (t : ℕ). t * b) whole, two-digits-below b b h l high low)
+
+-- modulo t, x - y is what is left of the top over y added to what is left over x
+pub difference-by-complements : (t x y : ℕ) → x < t → y < t → t - 1 - (t - 1 - x + y) % t ≡ (x + t - y) % t
+difference-by-complements t x y x-below y-below = go (decLe y x)
+  where
+    go : Dec (y ≤ x) → t - 1 - (t - 1 - x + y) % t ≡ (x + t - y) % t
+    go (yes under) =
+        let rest : (t - 1 - x + y) % t ≡ t - 1 - x + y = remainder-is (t - 1 - x + y) t 0 (t - 1 - x + y) (omega arith) (omega arith) in
+        let left : (x + t - y) % t ≡ x - y = remainder-is (x + t - y) t 1 (x - y) (omega arith) (omega arith) in
+        omega arith
+    go (no over) =
+        let rest : (t - 1 - x + y) % t ≡ y - x - 1 = remainder-is (t - 1 - x + y) t 1 (y - x - 1) (omega arith) (omega arith) in
+        let left : (x + t - y) % t ≡ x + t - y = remainder-is (x + t - y) t 0 (x + t - y) (omega arith) (omega arith) in
+        omega arith
+
+-- what is not greater is taken away whole
+pub difference-within : (t x y : ℕ) → x < t → y ≤ x → (x + t - y) % t ≡ x - y
+difference-within t x y below under = remainder-is (x + t - y) t 1 (x - y) (omega arith) (omega arith)
 
 -- ---- products of digits, and what fits beside them below b * b
 pub product-below : (b p q : ℕ) → p < b → q < b → p * q < b * b

@@ -1,13 +1,18 @@
 -- Squares of signed numbers from words: a number raised by c so that it is not below nought, and a square by the parts of its number above and below a
 -- base; each of one number, and of the terms of a sum.
-use mathlib.Core.Path.{_≡_, sym, ap, _∙_}
-use Prim.Native.Nat.{ℕ, zero, suc, _+_, _-_, _*_, _/_, _%_, _≤_, _<_}
+use mathlib.Core.Path.{_≡_, sym}
+use Prim.Native.Nat.{ℕ, zero, suc, _+_, _*_, _/_, _%_, _^_, _≤_, _<_}
 use native.Mathlib.Nat.{div-add-mod', le-refl}
 use native.Mathlib.Omega.{arith}
+use lib.Dec.{T}
 use lib.IntN.{ℤ, pos, negsuc, natAbs, _+ℤ_}
+use lib.Signed.{nonNeg}
+use mir.Syntax.{w64}
+use mir.Val.{SFits, Fits, ofZ}
 use Rattle.laws.specs.Sums.{sum, square}
 use Rattle.laws.proofs.Parts.{plus, minus, one-part, size-is, +ℤ-parts}
-use Rattle.laws.proofs.SumLaws.{sum-step}
+use Rattle.laws.proofs.Expressions.{Expression, #_, _∋_, _⊕_}
+use Rattle.laws.proofs.Machine.{Fit, machine, result, operation-fits, cast-fits, cast-is}
 
 -- ---- a number raised by c
 
@@ -20,6 +25,23 @@ module _ (c : ℕ) (z : ℤ) (within : natAbs z ≤ c) where
 
   pub raised-within : raised c z ≤ 2 * c
   raised-within = omega (arith, raised-is, size-is z)
+
+-- the machine raises a number that it holds as the word s
+module _ (c : ℕ) (z : ℤ) (within : natAbs z ≤ c) (small : c ≤ 2 ^ 61) (s : ℕ) (s-is : s ≡ ofZ w64 z) where
+  abbrev raising : Expression
+  raising = s ∋ z ⊕ # c
+
+  raising-fits : Fit w64 raising
+  raising-fits = omega (arith, size-is z)
+
+  pub raise-fits : SFits w64 (result w64 raising)
+  raise-fits = operation-fits w64 raising raising-fits
+
+  pub raise-casts : T (nonNeg (machine w64 raising)) × Fits w64 (natAbs (machine w64 raising))
+  raise-casts = cast-fits w64 w64 raising raising-fits (omega (arith, size-is z))
+
+  pub raise-is : natAbs (machine w64 raising) ≡ raised c z
+  raise-is = cast-is w64 raising (raised c z) raising-fits (omega (arith, raised-is c z within))
 
 -- above nought n more than c, below it n less
 square-above : (c n u : ℕ) → u ≡ n + c → n * n + 2 * c * u ≡ u * u + c * c

@@ -1,4 +1,5 @@
 pub mod PublishedLaws
+pub mod SquareLaws
 pub mod TotalLaws
 pub mod AnswerLaws
 pub mod Shifted

@@ -1,7 +1,7 @@
 -- What the code of the sums asks of a record that was checked: each signed result fits a word, and one turn of each loop adds one term.
 use mathlib.Core.Path.{_≡_, sym, ap, _∙_}
 use mathlib.Core.List.{List}
-use Prim.Native.Nat.{ℕ, _+_, _*_, _^_, _≤_, _<_}
+use Prim.Native.Nat.{ℕ, _+_, _-_, _*_, _^_, _≤_, _<_}
 use native.Mathlib.Omega.{arith}
 use lib.IntN.{ℤ, natAbs}
 use lib.ListN.{length}
@@ -12,13 +12,14 @@ use Rattle.laws.specs.Lists.{at}
 use Rattle.laws.proofs.SumLaws.{sum-step}
 use Rattle.laws.proofs.Parts.{size-is, small-fits}
 use Rattle.laws.proofs.Expressions.{Expression, _∋_, _⊕_, _⊖_}
+use Rattle.laws.proofs.Squares.{raised, raised-within}
 use Rattle.laws.proofs.Machine.{Fit, machine, result, read-back, machine-is, result-is}
 use Rattle.wide.specs.Wide.{halves, wideSum}
 use Rattle.wide.specs.declared.Wide.{Wide}
 use Rattle.wide.proofs.WideLaws.{sum-grows}
 use Rattle.record.specs.Refusals.{none, rangeRefusal, recordRefusal}
 use Rattle.record.proofs.RefusalLaws.{none-sound, Sound, range-bounded}
-use Rattle.sums.specs.Published.{difference, windowSum}
+use Rattle.sums.specs.Published.{difference, allanCount, windowSum}
 use Rattle.sums.specs.Answers.{allanDemand, modifiedDemand}
 use Rattle.sums.proofs.PublishedLaws.{differenceOf, difference-means, allanSoFar, firstSoFar, modifiedSoFar, first-step, first-within, first-window-is, window-slides-on, difference-within, difference-fits-word, window-within, window-fits-word, allan-so-far-below, modified-so-far-below}
 
@@ -31,6 +32,21 @@ module _ (m : ℕ) (xs : List ℤ) (i : ℕ) (unrefused : rangeRefusal xs ≡ no
 
   pub difference-is : machine w64 (differenceOf m xs i) ≡ difference m xs i
   difference-is = machine-is w64 (differenceOf m xs i) difference-fits ∙ difference-means m xs i
+
+-- ---- second differences raised by 2^42
+abbrev pub raisedDifference : ℕ → List ℤ → ℕ → ℕ
+raisedDifference m xs i = raised (2 ^ 42) (difference m xs i)
+
+pub allan-count-is : (m : ℕ) (xs : List ℤ) (n : ℕ) → n ≡ length xs - 2 * m → n ≡ allanCount m xs
+unfolding allanCount
+allan-count-is m xs n whole = whole
+
+module _ (m : ℕ) (xs : List ℤ) (unrefused : recordRefusal allanDemand m xs ≡ none) where
+  pub allan-difference-within : (i : ℕ) → natAbs (difference m xs i) ≤ 2 ^ 42
+  allan-difference-within i = difference-within m xs (none-sound allanDemand m xs unrefused .bounded) i
+
+  pub raised-difference-small : (i : ℕ) → raisedDifference m xs i ≤ 2 ^ 43
+  raised-difference-small i = raised-within (2 ^ 42) (difference m xs i) (allan-difference-within i)
 
 -- ---- squares in two halves
 

@@ -1,27 +1,29 @@
 // The sums over a record that was checked: second differences, the window that slides over them, and the totals of their squares.
+use crate::squares;
+use crate::squares::Parts;
 use wide::Wide;
 ghost use mathlib.Core.Path.{_≡_};
-ghost use Prim.Native.Nat.{_+_, _*_, _<_};
+ghost use Prim.Native.Nat.{_+_, _*_, _^_, _≤_, _<_};
 ghost use lib.ListN.{length};
+ghost use Rattle.laws.specs.Sums.{sum};
+ghost use Rattle.laws.proofs.Squares.{raised};
 ghost use Rattle.wide.specs.Wide.{halves};
 ghost use Rattle.record.specs.Refusals.{none, rangeRefusal, recordRefusal};
-ghost use Rattle.sums.specs.Published.{allanSum, modifiedSum, windowSum};
+ghost use Rattle.sums.specs.Published.{allanCount, allanSum, modifiedSum, windowSum};
 ghost use Rattle.sums.specs.Published.{difference as d};
 ghost use Rattle.sums.specs.Answers.{allanDemand, modifiedDemand};
 
-// The Allan sum A.
+// A second difference lies within this many picoseconds either way: 2^42.
+const LARGEST_DIFFERENCE: i64 = 4398046511104;
+
+// The Allan sum A, from the squares of raised second differences.
 pub(crate) fn allan_total(samples: &[i64], m: usize) -> Wide
     requires { ⌜ recordRefusal allanDemand m (now samples) ≡ none ⌝ }
     ensures { λ r. ⌜ r ≡ halves (allanSum m (now (samples .entry))) ⌝ }
 {
-    let mut total = Wide { hi: 0, lo: 0 };
-    let mut i: usize = 0;
+    let parts = allan_parts(samples, m);
     let count = samples.len() - 2 * m;
-    while i < count {
-        total = wide::with_square(total, difference(samples, m, i));
-        i += 1;
-    }
-    total
+    squares::lowered(squares::joined(parts), parts.raised, 1, count as u64)
 }
 
 // The modified sum B. One turn costs the same whatever m is: the window slides.
@@ -39,6 +41,34 @@ pub(crate) fn modified_total(samples: &[i64], m: usize) -> Wide
         j += 1;
     }
     total
+}
+
+// The sums by parts over all second differences, each raised by 2^42.
+fn allan_parts(samples: &[i64], m: usize) -> Parts
+    requires { ⌜ recordRefusal allanDemand m (now samples) ≡ none ⌝ }
+    ensures { λ r. ⌜ (r .high * 2 ^ 44 + r .cross * 2 ^ 23 + r .low ≡ sum (allanCount m (now (samples .entry))) (λ i. raised (2 ^ 42) (d m (now (samples .entry)) i) * raised (2 ^ 42) (d m (now (samples .entry)) i))) × (r .raised ≡ sum (allanCount m (now (samples .entry))) (λ i. raised (2 ^ 42) (d m (now (samples .entry)) i))) ⌝ }
+{
+    let mut parts = Parts {
+        high: 0,
+        cross: 0,
+        low: 0,
+        raised: 0,
+    };
+    let mut i: usize = 0;
+    let count = samples.len() - 2 * m;
+    while i < count {
+        parts = squares::with_number(parts, raised_difference(samples, m, i));
+        i += 1;
+    }
+    parts
+}
+
+// The second difference d_i of samples in range, raised by 2^42 so that it is not below nought.
+fn raised_difference(samples: &[i64], m: usize, i: usize) -> u64
+    requires { ⌜ (rangeRefusal (now samples) ≡ none) × (i + 2 * m < length (now samples)) ⌝ }
+    ensures { λ r. ⌜ (r ≡ raised (2 ^ 42) (d m (now (samples .entry)) i)) × (r ≤ 2 ^ 43) ⌝ }
+{
+    (difference(samples, m, i) + LARGEST_DIFFERENCE) as u64
 }
 
 // S_0, the sum of the first m second differences.

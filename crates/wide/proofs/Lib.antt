@@ -1,5 +1,6 @@
 pub mod Limbs
 pub mod Carries
+pub mod Complements
 pub mod WideLaws
 pub mod ThreeWordLaws
 pub mod Divisions

@@ -3,6 +3,8 @@ use mathlib.Core.Path.{refl, sym, _∙_}
 use Rattle.laws.specs.Single.{Single}
 use Rattle.wide.proofs.sum.Reads as sum
 use Rattle.wide.proofs.sum.Kinds as sum-kinds
+use Rattle.wide.proofs.difference.Reads as difference
+use Rattle.wide.proofs.difference.Kinds as difference-kinds
 use Rattle.wide.proofs.at_most.Reads as at-most
 use Rattle.wide.proofs.at_most.Kinds as at-most-kinds
 use Rattle.wide.proofs.product_low.Reads as product-low
@@ -22,6 +24,9 @@ use Rattle.wide.proofs.square_at_most.Kinds as square-at-most-kinds
 
 pub sum-single : Single 0 sum-kinds.ps sum-kinds.r sum.Post
 sum-single κs args z z′ w w′ first second = (first ∙ sym second, refl)
+
+pub difference-single : Single 0 difference-kinds.ps difference-kinds.r difference.Post
+difference-single κs args z z′ w w′ first second = (first ∙ sym second, refl)
 
 pub at-most-single : Single 0 at-most-kinds.ps at-most-kinds.r at-most.Post
 at-most-single κs args z z′ w w′ first second = (first ∙ sym second, refl)

@@ -1,6 +1,6 @@
 -- What a number in two halves stands for, and what each function answers, over plain naturals.
 use mathlib.Core.Bool.{true, false, cond}
-use Prim.Native.Nat.{ℕ, _+_, _*_, _/_, _%_, _^_}
+use Prim.Native.Nat.{ℕ, _+_, _-_, _*_, _/_, _%_, _^_}
 use lib.Dec.{leb, eqb}
 use Rattle.laws.specs.Greatest.{greatest}
 use Rattle.wide.specs.declared.Wide.{Wide}
@@ -17,6 +17,10 @@ halves n = record { hi = n / 2 ^ 64; lo = n % 2 ^ 64 }
 -- a sum; past the top it starts again from nought
 unfoldable pub wideSum : Wide → Wide → Wide
 wideSum a b = halves ((value a + value b) % 2 ^ 128)
+
+-- a difference; past nought it goes on from the top
+unfoldable pub wideDifference : Wide → Wide → Wide
+wideDifference a b = halves ((value a + 2 ^ 128 - value b) % 2 ^ 128)
 
 -- quotient and remainder; a divisor of nought divides nothing
 unfoldable pub divisionOf : ℕ → ℕ → Division

@@ -5,11 +5,11 @@ mod three_words;
 
 ghost use mathlib.Core.Path.{_≡_};
 ghost use mathlib.Core.Bool.{cond};
-ghost use Prim.Native.Nat.{_+_, _*_, _/_, _%_, _^_, _<_};
+ghost use Prim.Native.Nat.{_+_, _-_, _*_, _/_, _%_, _^_, _<_};
 ghost use lib.Dec.{leb};
 ghost use lib.IntN.{natAbs};
 ghost use Rattle.laws.specs.Sums.{square};
-ghost use Rattle.wide.specs.Wide.{value, halves, wideSum, divisionOf, squareRoot};
+ghost use Rattle.wide.specs.Wide.{value, halves, wideSum, wideDifference, divisionOf, squareRoot};
 
 // hi * 2^64 + lo.
 #[repr(C)]
@@ -32,6 +32,13 @@ pub fn sum(a: Wide, b: Wide) -> Wide
         };
     }
     Wide { hi, lo }
+}
+
+// The difference, modulo 2^128. Every caller shows that its own does not go below nought.
+pub fn difference(a: Wide, b: Wide) -> Wide
+    ensures { λ r. ⌜ r ≡ wideDifference a b ⌝ }
+{
+    complement(sum(complement(a), b))
 }
 
 // Whether a is not above b.
@@ -154,6 +161,16 @@ pub fn square_at_most(r: u64, d: u64, a: Wide) -> bool
         three_words::times(product(r, r), d),
         three_words::times(a, 1099511627776),
     )
+}
+
+// What is left of the top, 2^128 - 1.
+fn complement(a: Wide) -> Wide
+    ensures { λ r. ⌜ r ≡ halves (2 ^ 128 - 1 - value a) ⌝ }
+{
+    Wide {
+        hi: 18446744073709551615 - a.hi,
+        lo: 18446744073709551615 - a.lo,
+    }
 }
 
 // A word is two limbs.

@@ -1,65 +1,53 @@
--- `sums::totals::allan_total` meets its contract. The loop's invariant: the total holds the first i squares.
+-- `sums::totals::allan_total` meets its contract.
 use borrow.Author.Needs.{needs}
-use mathlib.Core.Path.{_≡_, sym, ap, _∙_}
-use Prim.Native.Nat.{_≤_, _-_, _*_}
+use mathlib.Core.Path.{ap, _∙_}
+use Prim.Native.Nat.{ℕ, _-_, _*_, _^_, _≤_, _<_}
 use native.Mathlib.Omega.{arith}
+use lib.IntN.{natAbs}
 use lib.ListN.{length}
-use Rattle.laws.proofs.SumLaws.{sum-zero}
-use Rattle.wide.specs.Wide.{halves}
-use Rattle.record.proofs.RefusalLaws.{none-sound, record-in-range}
+use Rattle.wide.specs.Wide.{value, halves}
+use Rattle.wide.proofs.WideLaws.{value-of-halves}
+use Rattle.record.proofs.RefusalLaws.{none-sound}
 use Rattle.sums.specs.Answers.{allanDemand}
-use Rattle.sums.proofs.PublishedLaws.{allanSoFar, allan-sum-is}
-use Rattle.sums.proofs.TotalLaws.{allan-grows}
+use Rattle.sums.specs.Published.{difference, allanCount, allanSum}
+use Rattle.sums.proofs.SquareLaws.{lowered-under, lowered-below, lowered-is}
+use Rattle.sums.proofs.TotalLaws.{allan-difference-within}
 use Rattle.sums.proofs.totals.allan_total.Statement.{statement}
 use Rattle.sums.proofs.totals.allan_total.Tie as tie
 
-abbrev Inv-loop : tie.InvT-loop
-Inv-loop samples m total₀ i₀ count total i = (i ≤ count) × (count ≡ length samples - 2 * m) × (total ≡ halves (allanSoFar m samples i))
+allan-parts-requires : tie.Need-allan-parts-requires
+allan-parts-requires c κs = search needs
 
-abbrev μ-loop : tie.MeasureT-loop
-μ-loop samples m total₀ i₀ count total i = count - i
+mul-count : tie.Need-mul-count
+mul-count c = omega (arith, none-sound allanDemand _ _ (c .before .pre) .enough)
 
-mul-count : tie.Need-mul-count Inv-loop μ-loop
-mul-count c = omega (arith, none-sound allanDemand _ _ (c .pre) .enough)
+sub-count : tie.Need-sub-count
+sub-count c = omega (arith, none-sound allanDemand _ _ (c .before .pre) .enough)
 
-sub-count : tie.Need-sub-count Inv-loop μ-loop
-sub-count c = omega (arith, none-sound allanDemand _ _ (c .pre) .enough)
+joined-requires : tie.Need-joined-requires
+joined-requires c κs = search needs
 
-loop-holds : tie.Need-loop-holds Inv-loop μ-loop
-loop-holds c = (omega arith, omega arith, ap halves (sym (sum-zero _)))
+lowered-requires : tie.Need-lowered-requires
+unfolding allanCount
+lowered-requires c κs =
+    let s = c .before .before in
+    let few : length (s .args .samples .now) - 2 * s .args .m ≤ 32768 = omega (arith, none-sound allanDemand _ _ (s .pre) .not-too-many) in
+    let d = difference (s .args .m) (s .args .samples .now) in
+    let within : (i : ℕ) → i < length (s .args .samples .now) - 2 * s .args .m → natAbs (d i) ≤ 2 ^ 42 = λ i below. allan-difference-within _ _ (s .pre) i in
+    let squares = ap value (c .joined .ensures) ∙ value-of-halves _ ∙ c .before .allan-parts .ensures .0 in
+    let sum = c .before .allan-parts .ensures .1 in
+    (omega arith, few, lowered-below 1 _ d within _ _ squares sum (omega arith), lowered-under 1 _ d within _ _ squares sum)
 
-difference-requires : tie.Need-difference-requires Inv-loop μ-loop
-difference-requires c κs = (record-in-range allanDemand _ _ (c .before .before .pre), omega arith)
-
-with-square-requires : tie.Need-with-square-requires Inv-loop μ-loop
-with-square-requires c κs = search needs
-
-add-i : tie.Need-add-i Inv-loop μ-loop
-add-i c = omega arith
-
-loop-less : tie.Need-loop-less Inv-loop μ-loop
-loop-less c = omega arith
-
-loop-again : tie.Need-loop-again Inv-loop μ-loop
-loop-again c =
-    let h = c .before .before .before in
-    (omega arith, omega arith, allan-grows _ _ (h .before .pre) (h .loop .i) (omega arith) (h .loop .inv .2) (c .before .difference .ensures) (c .with-square .ensures))
-
-returns : tie.Need-returns Inv-loop μ-loop
-returns c = let h = c .before in h .loop .inv .2 ∙ ap halves (allan-sum-is _ _ (h .loop .i) (omega arith))
+returns : tie.Need-returns
+unfolding allanCount allanSum
+returns c =
+    let s = c .before .before .before in
+    let d = difference (s .args .m) (s .args .samples .now) in
+    let within : (i : ℕ) → i < length (s .args .samples .now) - 2 * s .args .m → natAbs (d i) ≤ 2 ^ 42 = λ i below. allan-difference-within _ _ (s .pre) i in
+    let squares = ap value (c .before .joined .ensures) ∙ value-of-halves _ ∙ c .before .before .allan-parts .ensures .0 in
+    c .lowered .ensures ∙ ap halves (lowered-is 1 _ d within _ _ squares (c .before .before .allan-parts .ensures .1))
 
 pub allan-total-spec : {M : Type 1} → statement M
 allan-total-spec =
     tie.close
-    (tie.spec
-    Inv-loop
-    μ-loop
-    mul-count
-    sub-count
-    loop-holds
-    difference-requires
-    with-square-requires
-    add-i
-    loop-less
-    loop-again
-    returns)
+    (tie.spec allan-parts-requires mul-count sub-count joined-requires lowered-requires returns)
