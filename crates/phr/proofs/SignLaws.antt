@@ -1,19 +1,18 @@
 -- Two's complement is what the machine reads and writes, so that a signed number of 64 bits and its word give each other back; and what the code
--- makes of a word's top bit and of a value's sign is two's complement, with no overflow on the way.
+-- makes of a word's top bit is two's complement, with no overflow on the way.
 use mathlib.Core.Path.{_≡_, refl, ap, _∙_}
 use mathlib.Core.Bool.{Bool, true, false, cond}
 use Prim.Native.Nat.{ℕ, suc, _-_, _^_, _≤_, _<_}
 use native.Mathlib.Omega.{arith}
 use borrow.Author.Tests.{le-ltb}
-use lib.Dec.{T, ltb}
-use lib.IntN.{ℤ, pos, negsuc, natAbs}
-use lib.Signed.{mag, ltZ, nonNeg}
+use lib.Dec.{ltb}
+use lib.IntN.{ℤ, pos, negsuc}
+use lib.Signed.{mag}
 use mir.Syntax.{w64}
-use mir.Val.{SFits, Fits, toZ, ofZ, sel}
+use mir.Val.{SFits, toZ, ofZ, sel}
 use mir.Facts.{fits-ofZ, toZ-ofZ, ofZ-toZ}
-use Rattle.laws.proofs.Parts.{plus, minus, one-part, parts-of-fits}
-use Rattle.laws.proofs.Expressions.{Expression, $_, ±_, #_, _∋_, _⊕_, _⊖_, _⊏_, _⊑_, equation}
-use Rattle.laws.proofs.Machine.{Fit, machine, machine-is, lt-taken, lt-left, cast-is, cast-fits}
+use Rattle.laws.proofs.Expressions.{Expression, ±_, #_, _∋_, _⊖_, equation}
+use Rattle.laws.proofs.Machine.{Fit, machine, machine-is}
 use Rattle.phr.specs.Bytes.{twosComplement, signed}
 
 -- ---- two's complement, as the machine reads and writes it
@@ -56,53 +55,6 @@ module _ (n : ℕ) (top : 2 ^ 63 ≤ n) (below : n < 2 ^ 64) where
   from-top-is =
       machine-is w64 (fromTop n) from-top-fits
       ∙ rw (le-ltb n (2 ^ 63) top) (equation (fromTop n) (± negsuc (2 ^ 64 - 1 - n)) (omega arith))
-
--- ---- two's complement by a value's parts
-
-complement-below : (z : ℤ) → plus z < minus z → twosComplement z ≡ 2 ^ 64 - minus z
-unfolding twosComplement
-complement-below (pos n) h = absurd (omega arith)
-complement-below (negsuc n) h = refl
-
-complement-above : (z : ℤ) → minus z ≤ plus z → plus z ≡ twosComplement z
-unfolding twosComplement
-complement-above (pos n) h = refl
-complement-above (negsuc n) h = absurd (omega arith)
-
--- ---- a value z below nought is 2^64 - 1 - (-(z + 1))
-
-abbrev pub pastNought : ℤ → Expression
-pastNought z = # 0 ⊖ ($ z ⊕ # 1)
-
-module _ (z : ℤ) (fits : SFits w64 z) where
-  module _ (below : ltZ (toZ w64 (ofZ w64 z)) (pos 0) ≡ true) where
-    under : $ z ⊏ # 0
-    under = lt-taken w64 ($ z) (# 0) fits (omega arith) below
-
-    pub past-nought-fits : Fit w64 (pastNought z)
-    past-nought-fits = omega (arith, under, parts-of-fits fits)
-
-    pub past-nought-cast : T (nonNeg (machine w64 (pastNought z))) × Fits w64 (natAbs (machine w64 (pastNought z)))
-    past-nought-cast = cast-fits w64 w64 (pastNought z) past-nought-fits (omega (arith, under, parts-of-fits fits, one-part z))
-
-    past-nought-is : natAbs (machine w64 (pastNought z)) ≡ minus z - 1
-    past-nought-is = cast-is w64 (pastNought z) (minus z - 1) past-nought-fits (omega (arith, under, one-part z))
-
-    pub past-nought-within : natAbs (machine w64 (pastNought z)) ≤ 2 ^ 64 - 1
-    past-nought-within = omega (arith, past-nought-cast .1)
-
-    pub below-nought-is : 2 ^ 64 - 1 - natAbs (machine w64 (pastNought z)) ≡ twosComplement z
-    below-nought-is = omega (arith, past-nought-is, under, one-part z, complement-below z (omega (arith, under)))
-
-  module _ (above : ltZ (toZ w64 (ofZ w64 z)) (pos 0) ≡ false) where
-    over : # 0 ⊑ $ z
-    over = lt-left w64 ($ z) (# 0) fits (omega arith) above
-
-    pub above-nought-cast : T (nonNeg (machine w64 ($ z))) × Fits w64 (natAbs (machine w64 ($ z)))
-    above-nought-cast = cast-fits w64 w64 ($ z) fits (omega (arith, over, parts-of-fits fits))
-
-    pub above-nought-is : natAbs (machine w64 ($ z)) ≡ twosComplement z
-    above-nought-is = cast-is w64 ($ z) (plus z) fits (omega (arith, over, one-part z)) ∙ complement-above z (omega (arith, over))
 
 -- ---- a value that the machine loads is the value
 
