@@ -13,7 +13,7 @@ use mir.Syntax.{w64}
 use mir.Val.{SFits, toZ, ofZ}
 use Rattle.laws.specs.Lists.{at, tabulate}
 use Rattle.laws.proofs.ListLaws.{tabulate-length, tabulate-entry, tabulate-equal}
-use Rattle.phr.specs.Bytes.{lowFirst, fromLowFirst, twosComplement, signed, valuesBytes, valueAt}
+use Rattle.phr.specs.Bytes.{lowFirst, fromLowFirst, twosComplement, valuesBytes, valueAt}
 use Rattle.phr.specs.File.{AreBytes}
 use Rattle.phr.proofs.ByteLaws.{writtenFrom, written-from-none, written-from-next, stores-from, bytes-taken, bytes-dropped, bytes-joined, low-first-length, low-first-bytes, low-first-back, from-low-first-below, from-low-first-back, from-low-first-append}
 use Rattle.phr.proofs.SignLaws.{twos-complement-below, twos-complement-back, signed-back, loaded-value}
@@ -53,11 +53,6 @@ pub eight-bytes-make : (bytes : List ℕ) (place : ℕ) → place + 8 ≤ length
     fromLowFirst (take 4 (drop place bytes)) + 4294967296 * fromLowFirst (take 4 (drop (place + 4) bytes)) ≡ fromLowFirst (take 8 (drop place bytes))
 eight-bytes-make bytes place h =
     sym (ap fromLowFirst (take-add 4 4 (drop place bytes)) ∙ from-low-first-append (take 4 (drop place bytes)) (take 4 (drop 4 (drop place bytes))) ∙ rw (bytes-there bytes place 4 (omega arith), drop-drop))
-
-pub value-of-halves : (bytes : List ℕ) (place : ℕ) → place + 8 ≤ length bytes → {low high : ℕ} →
-    low ≡ fromLowFirst (take 4 (drop place bytes)) → high ≡ fromLowFirst (take 4 (drop (place + 4) bytes)) → signed (low + 4294967296 * high) ≡ valueAt bytes place
-unfolding valueAt
-value-of-halves bytes place h e f = ap signed (rw (e, f) (eight-bytes-make bytes place h))
 
 -- ---- the bytes of a word, as they are stored
 

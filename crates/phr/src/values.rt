@@ -82,9 +82,17 @@ fn value_at(bytes: &[u8], place: usize) -> i64
     requires { ⌜ place + 8 ≤ length (now bytes) ⌝ }
     ensures { λ r. ⌜ r ≡ valueAt (now (bytes .entry)) place ⌝ }
 {
+    signed(word_at(bytes, place))
+}
+
+// The 64 bits that eight bytes make, low byte first.
+fn word_at(bytes: &[u8], place: usize) -> u64
+    requires { ⌜ place + 8 ≤ length (now bytes) ⌝ }
+    ensures { λ r. ⌜ r ≡ fromLowFirst (take 8 (drop place (now (bytes .entry)))) ⌝ }
+{
     let low = four_bytes(bytes, place);
     let high = four_bytes(bytes, place + 4);
-    signed(low + 4294967296 * high)
+    low + 4294967296 * high
 }
 
 // The number that four bytes make, low byte first.
