@@ -3,6 +3,7 @@ pub mod SignLaws
 pub mod ValueLaws
 pub mod RangeCases
 pub mod RangeSearch
+pub mod RangePass
 pub mod HeaderLaws
 pub mod ReadCases
 pub mod WriteCases

@@ -28,11 +28,18 @@ module _ (kind : ℕ) (z : ℤ) where
     unfolding valueInRange
     frequency-not-below t = rw (ne-eqb kind 0 frequency) (above-low-end (2 ^ 41) z t)
 
--- a value in its range fits 64 bits
-pub in-range-fits : (kind : ℕ) (z : ℤ) → valueInRange kind z ≡ true → SFits w64 z
-unfolding valueInRange
-in-range-fits kind z t = small-fits z (omega (arith, leb-true (natAbs z) _ t, widest (eqb kind 0)))
+-- the upper end of a kind's range
+abbrev pub endOf : ℕ → ℕ
+endOf kind = cond (eqb kind 0) (2 ^ 40) (2 ^ 41)
+
+pub end-within : (kind : ℕ) → endOf kind ≤ 2 ^ 41
+end-within kind = widest (eqb kind 0)
   where
     widest : (phase : Bool) → cond phase (2 ^ 40) (2 ^ 41) ≤ 2 ^ 41
     widest true = omega arith
     widest false = omega arith
+
+-- a value in its range fits 64 bits
+pub in-range-fits : (kind : ℕ) (z : ℤ) → valueInRange kind z ≡ true → SFits w64 z
+unfolding valueInRange
+in-range-fits kind z t = small-fits z (omega (arith, leb-true (natAbs z) _ t, end-within kind))

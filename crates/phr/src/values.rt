@@ -1,8 +1,10 @@
 // The values of a file, each in eight bytes.
 use crate::header::word;
 ghost use mathlib.Core.Path.{_≡_};
+ghost use mathlib.Core.Bool.{true, cond};
 ghost use mathlib.Core.List.{_++_};
-ghost use Prim.Native.Nat.{_+_, _*_, _≤_, _<_};
+ghost use Prim.Native.Nat.{_+_, _*_, _^_, _≤_, _<_};
+ghost use lib.Dec.{eqb};
 ghost use lib.ListN.{length, take, drop};
 ghost use Rattle.laws.specs.Lists.{tabulate, written, firstFailing};
 ghost use Rattle.phr.specs.Bytes.{lowFirst, fromLowFirst, twosComplement, valuesBytes, valueAt};
@@ -14,15 +16,10 @@ pub(crate) fn first_outside(bytes: &[u8], kind: u64, count: usize) -> usize
     requires { ⌜ 8 + 8 * count ≤ length (now bytes) ⌝ }
     ensures { λ r. ⌜ r ≡ firstFailing (valueInRange kind) (tabulate count (λ i. valueAt (now (bytes .entry)) (8 + 8 * i))) ⌝ }
 {
-    let mut i: usize = 0;
-    while i < count {
-        if value_in_range(kind, value_at(bytes, 8 + 8 * i)) {
-            i += 1;
-        } else {
-            return i;
-        }
+    if surely_in_range(bytes, kind, count) {
+        return count;
     }
-    i
+    search_outside(bytes, kind, count)
 }
 
 // The values at the front of the buffer.
@@ -64,25 +61,30 @@ pub(crate) fn write_values(values: &[i64], buffer: &mut [u8])
     }
 }
 
-// Whether a value lies in the range of its kind.
-fn value_in_range(kind: u64, z: i64) -> bool
-    ensures { λ r. ⌜ r ≡ valueInRange kind z ⌝ }
+// Whether count values surely lie in the range of their kind.
+// The pass has no way out, so that a machine works several values at a time. A value at the upper end may leave it unsure, and the search decides.
+fn surely_in_range(bytes: &[u8], kind: u64, count: usize) -> bool
+    requires { ⌜ 8 + 8 * count ≤ length (now bytes) ⌝ }
+    ensures { λ r. ⌜ (r ≡ true → firstFailing (valueInRange kind) (tabulate count (λ i. valueAt (now (bytes .entry)) (8 + 8 * i))) ≡ count) ⌝ }
 {
-    if kind == 0 {
-        return record::in_range(z);
+    let end = end_of(kind);
+    let mut reached: u64 = 0;
+    let mut i: usize = 0;
+    while i < count {
+        reached = reached | std::num::wrapping_add_u64(word_at(bytes, 8 + 8 * i), end);
+        i += 1;
     }
-    if z < -record::LARGEST_FREQUENCY {
-        return false;
-    }
-    z <= record::LARGEST_FREQUENCY
+    reached <= 2 * end
 }
 
-// The value whose eight bytes start at a place.
-fn value_at(bytes: &[u8], place: usize) -> i64
-    requires { ⌜ place + 8 ≤ length (now bytes) ⌝ }
-    ensures { λ r. ⌜ r ≡ valueAt (now (bytes .entry)) place ⌝ }
+// The upper end of a kind's range.
+fn end_of(kind: u64) -> u64
+    ensures { λ r. ⌜ r ≡ cond (eqb kind 0) (2 ^ 40) (2 ^ 41) ⌝ }
 {
-    signed(word_at(bytes, place))
+    if kind == 0 {
+        return record::LARGEST_SAMPLE as u64;
+    }
+    record::LARGEST_FREQUENCY as u64
 }
 
 // The 64 bits that eight bytes make, low byte first.
@@ -104,6 +106,43 @@ fn four_bytes(bytes: &[u8], place: usize) -> u64
         + 256 * word(bytes[place + 1])
         + 65536 * word(bytes[place + 2])
         + 16777216 * word(bytes[place + 3])
+}
+
+// The first of count values outside the range of their kind, or count, looked for one by one.
+fn search_outside(bytes: &[u8], kind: u64, count: usize) -> usize
+    requires { ⌜ 8 + 8 * count ≤ length (now bytes) ⌝ }
+    ensures { λ r. ⌜ r ≡ firstFailing (valueInRange kind) (tabulate count (λ i. valueAt (now (bytes .entry)) (8 + 8 * i))) ⌝ }
+{
+    let mut i: usize = 0;
+    while i < count {
+        if value_in_range(kind, value_at(bytes, 8 + 8 * i)) {
+            i += 1;
+        } else {
+            return i;
+        }
+    }
+    i
+}
+
+// Whether a value lies in the range of its kind.
+fn value_in_range(kind: u64, z: i64) -> bool
+    ensures { λ r. ⌜ r ≡ valueInRange kind z ⌝ }
+{
+    if kind == 0 {
+        return record::in_range(z);
+    }
+    if z < -record::LARGEST_FREQUENCY {
+        return false;
+    }
+    z <= record::LARGEST_FREQUENCY
+}
+
+// The value whose eight bytes start at a place.
+fn value_at(bytes: &[u8], place: usize) -> i64
+    requires { ⌜ place + 8 ≤ length (now bytes) ⌝ }
+    ensures { λ r. ⌜ r ≡ valueAt (now (bytes .entry)) place ⌝ }
+{
+    signed(word_at(bytes, place))
 }
 
 // What 64 bits stand for in two's complement.
