@@ -3,8 +3,10 @@
 use mathlib.Core.Path.{_≡_, refl, _∙_}
 use mathlib.Core.Bool.{true, false}
 use Prim.Native.Nat.{ℕ, suc, _+_, _-_, _*_, _%_, _^_, _≤_, _<_}
+use native.Mathlib.Nat.{le-trans}
 use native.Mathlib.Omega.{arith}
-use lib.Bits.{bitOr, bitAnd, or-add-and, and-le-l, and-le-r}
+use borrow.Author.Count.{below-more}
+use lib.Bits.{bitOr, or-add-and, and-le-l, and-le-r}
 use lib.Dec.{T}
 use lib.IntN.{ℤ, pos, negsuc, natAbs}
 use lib.Signed.{ltZ, nonNeg}
@@ -67,8 +69,16 @@ moved-up-within c small (negsuc n) fits below = omega (arith, fits .sfits)
 
 -- ---- the bits of two words in one: it is at least either
 
-pub or-reaches-left : (a b : ℕ) → a ≤ bitOr a b
+or-reaches-left : (a b : ℕ) → a ≤ bitOr a b
 or-reaches-left a b = omega (arith, or-add-and a b, and-le-r a b)
 
-pub or-reaches-right : (a b : ℕ) → b ≤ bitOr a b
+or-reaches-right : (a b : ℕ) → b ≤ bitOr a b
 or-reaches-right a b = omega (arith, or-add-and a b, and-le-l a b)
+
+-- the bits of the words before i, gathered, are at least each of them
+abbrev pub Reached : (ℕ → ℕ) → ℕ → ℕ → Type 0
+Reached words i reached = (k : ℕ) → k < i → words k ≤ reached
+
+pub one-more-reached : (words : ℕ → ℕ) (i reached : ℕ) → Reached words i reached → {word : ℕ} → word ≡ words i → Reached words (i + 1) (bitOr reached word)
+one-more-reached words i reached so-far {word} e =
+    below-more (λ k. words k ≤ bitOr reached word) i (λ k below. le-trans (so-far k below) (or-reaches-left reached word)) (omega (arith, or-reaches-right reached word))

@@ -5,9 +5,7 @@ use mathlib.Core.Bool.{true}
 use mathlib.Core.List.{List}
 use Prim.Native.Nat.{ℕ, _+_, _*_, _%_, _^_, _≤_, _<_}
 use native.Mathlib.Omega.{arith}
-use borrow.Author.Count.{below-more}
 use borrow.Author.Tests.{le-leb}
-use lib.Bits.{bitOr}
 use lib.IntN.{pos}
 use lib.ListN.{length, take, drop}
 use mir.Facts.{sfits-toZ, ofZ-toZ}
@@ -15,22 +13,12 @@ use mir.Syntax.{w64}
 use mir.Val.{Fits, toZ}
 use Rattle.laws.specs.Lists.{at, firstFailing}
 use Rattle.laws.proofs.ListLaws.{tabulate-entry, none-fails}
-use Rattle.laws.proofs.Words.{moved-up-within, or-reaches-left, or-reaches-right}
+use Rattle.laws.proofs.Words.{moved-up-within, Reached}
 use Rattle.phr.specs.Bytes.{fromLowFirst, signed, valueAt}
 use Rattle.phr.specs.File.{valueInRange, AreBytes}
 use Rattle.phr.proofs.RangeCases.{endOf, end-within}
 use Rattle.phr.proofs.SignLaws.{signed-is}
 use Rattle.phr.proofs.ValueLaws.{valuesFrom, values-from-length, bytes-make-below}
-
--- ---- the bits that are gathered are at least every word passed
-
-abbrev pub Reached : (ℕ → ℕ) → ℕ → ℕ → Type 0
-Reached words i reached = (k : ℕ) → k < i → words k ≤ reached
-
-pub one-more-reached : (words : ℕ → ℕ) (i reached : ℕ) → Reached words i reached → {word : ℕ} → word ≡ words i → Reached words (i + 1) (bitOr reached word)
-one-more-reached words i reached so-far {word} e =
-    let before : Reached words i (bitOr reached word) = λ k h. omega (arith, so-far k h, or-reaches-left reached word) in
-    below-more (λ k. words k ≤ bitOr reached word) i before (omega (arith, or-reaches-right reached word))
 
 -- ---- a value whose word, moved up by the end of its range, is at most twice the end
 

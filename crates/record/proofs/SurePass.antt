@@ -14,7 +14,7 @@ use mir.Val.{SFits, ofZ, toZ}
 use mir.Facts.{toZ-ofZ}
 use Rattle.laws.specs.Lists.{at}
 use Rattle.laws.proofs.ListLaws.{none-fails}
-use Rattle.laws.proofs.Words.{moved-up-within, or-reaches-left, or-reaches-right}
+use Rattle.laws.proofs.Words.{moved-up-within, Reached, one-more-reached}
 use Rattle.record.specs.Refusals.{none, inRange, rangeRefusal}
 use Rattle.record.proofs.RangeLaws.{bounded-sample}
 use Rattle.record.proofs.RefusalLaws.{all-in-range}
@@ -23,26 +23,20 @@ use Rattle.record.proofs.RefusalLaws.{all-in-range}
 abbrev movedUp : ℤ → ℕ
 movedUp z = (ofZ w64 z + 2 ^ 40) % 2 ^ 64
 
--- a sample was passed
-abbrev Passed : ℕ → ℤ → Type 0
-Passed reached z = SFits w64 z × (movedUp z ≤ reached)
+-- the samples before i were passed
+abbrev pub Passed : ℕ → List ℤ → ℕ → Type 0
+Passed reached xs i = ((k : ℕ) → k < i → SFits w64 (at xs k)) × Reached (λ k. movedUp (at xs k)) i reached
 
--- the samples before i were
-abbrev pub AllPassed : ℕ → List ℤ → ℕ → Type 0
-AllPassed reached xs i = (k : ℕ) → k < i → Passed reached (at xs k)
-
-module _ (xs : List ℤ) (reached i : ℕ) (passed : AllPassed reached xs i) where
+module _ (xs : List ℤ) (reached i : ℕ) (passed : Passed reached xs i) where
   -- one sample more, as the machine loads it
-  pub one-more-passed : mag (at xs i) < 2 ^ 63 → {word : ℕ} → word ≡ movedUp (toZ w64 (ofZ w64 (at xs i))) → AllPassed (bitOr reached word) xs (i + 1)
-  one-more-passed loads {word} word-is =
+  pub one-more-passed : mag (at xs i) < 2 ^ 63 → {word : ℕ} → word ≡ movedUp (toZ w64 (ofZ w64 (at xs i))) → Passed (bitOr reached word) xs (i + 1)
+  one-more-passed loads word-is =
       let fits : SFits w64 (at xs i) = record { sfits = loads } in
-      let same : word ≡ movedUp (at xs i) = word-is ∙ ap movedUp (toZ-ofZ fits) in
-      below-more (λ k. Passed (bitOr reached word) (at xs k)) i (λ k below. (passed k below .0, le-trans (passed k below .1) (or-reaches-left reached word)))
-      (fits, omega (arith, or-reaches-right reached word))
+      (below-more (λ k. SFits w64 (at xs k)) i (passed .0) fits, one-more-reached (λ k. movedUp (at xs k)) i reached (passed .1) (word-is ∙ ap movedUp (toZ-ofZ fits)))
 
   -- nothing lies outside the range where what was reached is at most twice its end
   pub passed-in-range : i ≡ length xs → reached ≤ 2 * 2 ^ 40 → rangeRefusal xs ≡ none
   passed-in-range whole low =
       all-in-range xs (none-fails inRange (pos 0) xs (λ k below.
-      let p = passed k (omega arith) in
-      bounded-sample (at xs k) (moved-up-within (2 ^ 40) (omega arith) (at xs k) (p .0) (le-trans (p .1) low))))
+      let before : k < i = omega arith in
+      bounded-sample (at xs k) (moved-up-within (2 ^ 40) (omega arith) (at xs k) (passed .0 k before) (le-trans (passed .1 k before) low))))

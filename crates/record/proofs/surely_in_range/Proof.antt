@@ -4,18 +4,18 @@ use Prim.Native.Nat.{_≤_, _-_}
 use native.Mathlib.Omega.{arith}
 use borrow.Author.Tests.{leb-true}
 use lib.ListN.{length}
-use Rattle.record.proofs.SurePass.{AllPassed, one-more-passed, passed-in-range}
+use Rattle.record.proofs.SurePass.{Passed, one-more-passed, passed-in-range}
 use Rattle.record.proofs.surely_in_range.Statement.{statement}
 use Rattle.record.proofs.surely_in_range.Tie as tie
 
 abbrev Inv-loop : tie.InvT-loop
-Inv-loop samples reached₀ i₀ reached i = (i ≤ length samples) × AllPassed reached samples i
+Inv-loop samples reached₀ i₀ reached i = (i ≤ length samples) × Passed reached samples i
 
 abbrev μ-loop : tie.MeasureT-loop
 μ-loop samples reached₀ i₀ reached i = length samples - i
 
 loop-holds : tie.Need-loop-holds Inv-loop μ-loop
-loop-holds c = (omega arith, λ k below. absurd (omega arith))
+loop-holds c = (omega arith, (λ k below. absurd (omega arith), λ k below. absurd (omega arith)))
 
 mul-moved-up : tie.Need-mul-moved-up Inv-loop μ-loop
 mul-moved-up c = omega arith

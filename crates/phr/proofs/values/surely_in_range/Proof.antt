@@ -3,8 +3,9 @@ use borrow.Author.Needs.{needs}
 use borrow.Author.Tests.{leb-true}
 use Prim.Native.Nat.{_-_, _≤_}
 use native.Mathlib.Omega.{arith}
+use Rattle.laws.proofs.Words.{Reached, one-more-reached}
 use Rattle.phr.proofs.RangeCases.{end-within}
-use Rattle.phr.proofs.RangePass.{Reached, one-more-reached, movedUp, all-in-range}
+use Rattle.phr.proofs.RangePass.{movedUp, all-in-range}
 use Rattle.phr.proofs.values.surely_in_range.Statement.{statement}
 use Rattle.phr.proofs.values.surely_in_range.Tie as tie
 
