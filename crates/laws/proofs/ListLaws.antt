@@ -1,7 +1,7 @@
 -- A list by its entries, the first entry that fails a test, how many pass one, and a buffer that is written from its front.
 use mathlib.Core.Path.{_≡_, refl, sym, ap, ap₂, _∙_}
 use mathlib.Core.Bool.{Bool, true, false, cond, true≢false}
-use mathlib.Core.List.{List, [], _∷_, _++_}
+use mathlib.Core.List.{List, [], _∷_, _++_, append-nil}
 use Prim.Native.Nat.{ℕ, zero, suc, _+_, _-_, _≤_, _<_}
 use native.Mathlib.Nat.{add-zero, le-of-lt}
 use native.Mathlib.Numerals.{add-one}
@@ -138,6 +138,12 @@ module _ {A : Type 0} (out buffer : List A) where
 
   pub written-whole : (i : ℕ) → i ≡ length out → writtenSoFar i out buffer ≡ written out buffer
   written-whole i e = rw (e, take-length)
+
+  -- a buffer of the output's own length is written over
+  pub written-over : (i : ℕ) → i ≡ length buffer → length out ≡ length buffer → writtenSoFar i out buffer ≡ out
+  written-over i e same =
+      let whole : i ≡ length out = omega arith in
+      written-whole i whole ∙ rw (same, drop-length buffer, append-nil)
 
   pub written-front : (i : ℕ) (z : A) → i < length out → getD (written out buffer) i z ≡ getD out i z
   written-front i z h = List·getD-append out (drop (length out) buffer) z i h

@@ -1,5 +1,6 @@
 pub mod PublishedLaws
 pub mod SquareLaws
+pub mod BlockLaws
 pub mod TotalLaws
 pub mod AnswerLaws
 pub mod Shifted

@@ -1,16 +1,17 @@
 -- The published sums of a record, one term more of each, and how large they become where no sample lies beyond 2^40.
-use mathlib.Core.Path.{_≡_, refl, sym, ap}
+use mathlib.Core.Path.{_≡_, refl, sym, ap, _∙_}
 use mathlib.Core.List.{List}
-use Prim.Native.Nat.{ℕ, _+_, _-_, _*_, _^_, _≤_, _<_}
-use native.Mathlib.Nat.{mul-le-mul, mul-le-mul-right, zero-add}
+use Prim.Native.Nat.{ℕ, zero, suc, _+_, _-_, _*_, _^_, _≤_, _<_}
+use native.Mathlib.Nat.{mul-le-mul, mul-le-mul-right, zero-add, add-zero, add-suc}
+use native.Mathlib.Numerals.{add-one}
 use native.Mathlib.Omega.{arith}
-use lib.IntN.{ℤ, natAbs, _+ℤ_, _-ℤ_}
+use lib.IntN.{ℤ, natAbs, _+ℤ_, _-ℤ_, +ℤ-idr, +ℤ-assoc}
 use lib.ListN.{length}
 use Rattle.laws.specs.Sums.{sum, sumℤ, square}
 use Rattle.laws.specs.Lists.{at}
 use Rattle.laws.proofs.Parts.{size-is, square-within}
-use Rattle.laws.proofs.Expressions.{Expression, $_, #_, _⊕_, _⊖_, _⊗_, ⟦_⟧, size-within}
-use Rattle.laws.proofs.SumLaws.{sum-step, sum-within, sumℤ-step, sumℤ-equal, sumℤ-within, window-slides}
+use Rattle.laws.proofs.Expressions.{Expression, $_, #_, _⊕_, _⊖_, _⊗_, ⟦_⟧, equation, size-within}
+use Rattle.laws.proofs.SumLaws.{sum-step, sum-within, sumℤ-zero, sumℤ-suc, sumℤ-step, sumℤ-equal, sumℤ-within, window-slides}
 use Rattle.record.specs.Refusals.{none, recordRefusal}
 use Rattle.record.proofs.RefusalLaws.{none-sound}
 use Rattle.sums.specs.Published.{difference, windowSum, allanSum, allanCount, modifiedSum, modifiedCount}
@@ -23,6 +24,20 @@ differenceOf m xs i = $ at xs (i + 2 * m) ⊖ # 2 ⊗ $ at xs (i + m) ⊕ $ at x
 pub difference-means : (m : ℕ) (xs : List ℤ) (i : ℕ) → ⟦ differenceOf m xs i ⟧ ≡ difference m xs i
 unfolding difference
 difference-means m xs i = refl
+
+-- ---- what the window gains as it moves on from j, a third difference
+abbrev pub gain : ℕ → List ℤ → ℕ → ℤ
+gain m xs j = difference m xs (j + m) -ℤ difference m xs j
+
+abbrev pub gainOf : ℕ → List ℤ → ℕ → Expression
+gainOf m xs j = $ at xs (j + 3 * m) ⊖ # 3 ⊗ $ at xs (j + 2 * m) ⊕ # 3 ⊗ $ at xs (j + m) ⊖ $ at xs j
+
+pub gain-means : (m : ℕ) (xs : List ℤ) (j : ℕ) → ⟦ gainOf m xs j ⟧ ≡ gain m xs j
+gain-means m xs j =
+    let third : j + m + 2 * m ≡ j + 3 * m = omega arith in
+    let second : j + m + m ≡ j + 2 * m = omega arith in
+    rw (← difference-means m xs (j + m), ← difference-means m xs j, third, second)
+    (equation (gainOf m xs j) ($ at xs (j + 3 * m) ⊖ # 2 ⊗ $ at xs (j + 2 * m) ⊕ $ at xs (j + m) ⊖ differenceOf m xs j) (omega arith))
 
 -- ---- the sums after n of their terms
 
@@ -63,6 +78,19 @@ module _ (m : ℕ) (xs : List ℤ) where
   unfolding windowSum
   window-slides-on j = window-slides m (difference m xs) j
 
+  -- so it gains
+  pub window-gains : (j : ℕ) → windowSum m xs (j + 1) ≡ windowSum m xs j +ℤ gain m xs j
+  window-gains j =
+      let w = $ windowSum m xs j in
+      let come = $ difference m xs (j + m) in
+      let go = $ difference m xs j in
+      window-slides-on j ∙ equation (w ⊕ come ⊖ go) (w ⊕ (come ⊖ go)) (omega arith)
+
+  pub window-after : (j k : ℕ) → windowSum m xs j +ℤ sumℤ k (λ i. gain m xs (j + i)) ≡ windowSum m xs (j + k)
+  window-after j zero = rw (sumℤ-zero, +ℤ-idr, add-zero j)
+  window-after j (suc k) =
+      rw (sumℤ-suc, ← +ℤ-assoc, window-after j k, ← window-gains (j + k), add-suc j k, ← add-one (j + k))
+
 -- ---- bounds
 
 module _ (m : ℕ) (xs : List ℤ) (bounded : (k : ℕ) → natAbs (at xs k) ≤ 2 ^ 40) where
@@ -70,6 +98,11 @@ module _ (m : ℕ) (xs : List ℤ) (bounded : (k : ℕ) → natAbs (at xs k) ≤
   difference-within i =
       rw (← difference-means m xs i) (size-within (differenceOf m xs i) (2 ^ 42)
       (omega (arith, bounded i, bounded (i + m), bounded (i + 2 * m), size-is (at xs i), size-is (at xs (i + m)), size-is (at xs (i + 2 * m)))))
+
+  pub gain-within : (j : ℕ) → natAbs (gain m xs j) ≤ 2 ^ 43
+  gain-within j =
+      size-within ($ difference m xs (j + m) ⊖ $ difference m xs j) (2 ^ 43)
+      (omega (arith, difference-within (j + m), difference-within j, size-is (difference m xs (j + m)), size-is (difference m xs j)))
 
   pub first-within : (n : ℕ) → natAbs (firstSoFar m xs n) ≤ n * 2 ^ 42
   first-within n = sumℤ-within n (difference m xs) (2 ^ 42) (λ i below. difference-within i)

@@ -107,7 +107,7 @@ module _ (m n : ℕ) (f : ℕ → ℤ) (within : (i : ℕ) → i < n → natAbs 
   balance : sum n (λ i. square (f i)) + raisedSum * (m * 2 ^ 43) ≡ raisedSquares + n * (m * m * 2 ^ 84)
   balance = omega (arith, squares-of-raised (m * 2 ^ 42) n f within)
 
-  raised-square-within : (i : ℕ) → i < n → raised (m * 2 ^ 42) (f i) * raised (m * 2 ^ 42) (f i) ≤ m * m * 2 ^ 86
+  pub raised-square-within : (i : ℕ) → i < n → raised (m * 2 ^ 42) (f i) * raised (m * 2 ^ 42) (f i) ≤ m * m * 2 ^ 86
   raised-square-within i below =
       let once = raised-within (m * 2 ^ 42) (f i) (within i below) in
       omega (arith, mul-le-mul once once)

@@ -3,15 +3,16 @@ use mathlib.Core.Path.{_≡_, sym, ap, _∙_}
 use mathlib.Core.List.{List}
 use Prim.Native.Nat.{ℕ, _+_, _-_, _*_, _^_, _≤_, _<_}
 use native.Mathlib.Omega.{arith}
-use lib.IntN.{ℤ, natAbs}
+use lib.IntN.{ℤ, pos, natAbs}
 use lib.ListN.{length}
 use mir.Syntax.{w64}
-use mir.Val.{ofZ, toZ}
+use mir.Val.{SFits, ofZ, toZ}
 use Rattle.laws.specs.Sums.{sum, square}
-use Rattle.laws.specs.Lists.{at}
-use Rattle.laws.proofs.SumLaws.{sum-step}
+use Rattle.laws.specs.Lists.{at, tabulate}
+use Rattle.laws.proofs.ListLaws.{tabulate-length, tabulate-entry}
+use Rattle.laws.proofs.SumLaws.{sum-step, sum-equal, sum-split, sumℤ-equal}
 use Rattle.laws.proofs.Parts.{size-is, small-fits}
-use Rattle.laws.proofs.Expressions.{Expression, _∋_, _⊕_, _⊖_}
+use Rattle.laws.proofs.Expressions.{Expression, _∋_, _⊕_}
 use Rattle.laws.proofs.Squares.{raised, raised-within}
 use Rattle.laws.proofs.Machine.{Fit, machine, result, read-back, machine-is, result-is}
 use Rattle.wide.specs.Wide.{halves, wideSum}
@@ -21,7 +22,8 @@ use Rattle.record.specs.Refusals.{none, rangeRefusal, recordRefusal}
 use Rattle.record.proofs.RefusalLaws.{none-sound, Sound, range-bounded}
 use Rattle.sums.specs.Published.{difference, allanCount, windowSum}
 use Rattle.sums.specs.Answers.{allanDemand, modifiedDemand}
-use Rattle.sums.proofs.PublishedLaws.{differenceOf, difference-means, allanSoFar, firstSoFar, modifiedSoFar, first-step, first-within, first-window-is, window-slides-on, difference-within, difference-fits-word, window-within, window-fits-word, allan-so-far-below, modified-so-far-below}
+use Rattle.sums.proofs.BlockLaws.{windowAt}
+use Rattle.sums.proofs.PublishedLaws.{differenceOf, difference-means, allanSoFar, firstSoFar, modifiedSoFar, first-step, first-within, first-window-is, gain, gainOf, gain-means, gain-within, window-gains, window-after, difference-within, difference-fits-word, window-within, window-fits-word, allan-so-far-below, modified-so-far-below}
 
 -- ---- a second difference
 module _ (m : ℕ) (xs : List ℤ) (i : ℕ) (unrefused : rangeRefusal xs ≡ none) where
@@ -32,6 +34,40 @@ module _ (m : ℕ) (xs : List ℤ) (i : ℕ) (unrefused : rangeRefusal xs ≡ no
 
   pub difference-is : machine w64 (differenceOf m xs i) ≡ difference m xs i
   difference-is = machine-is w64 (differenceOf m xs i) difference-fits ∙ difference-means m xs i
+
+-- ---- what the window gains
+module _ (m : ℕ) (xs : List ℤ) (j : ℕ) (unrefused : rangeRefusal xs ≡ none) where
+  pub gain-fits : Fit w64 (gainOf m xs j)
+  gain-fits =
+      let bounded = range-bounded xs unrefused in
+      omega (
+        arith,
+        bounded j,
+        bounded (j + m),
+        bounded (j + 2 * m),
+        bounded (j + 3 * m),
+        size-is (at xs j),
+        size-is (at xs (j + m)),
+        size-is (at xs (j + 2 * m)),
+        size-is (at xs (j + 3 * m)),
+      )
+
+  pub gain-fits-word : SFits w64 (gain m xs j)
+  gain-fits-word = small-fits (gain m xs j) (omega (arith, gain-within m xs (range-bounded xs unrefused) j))
+
+  pub gain-is : machine w64 (gainOf m xs j) ≡ gain m xs j
+  gain-is = machine-is w64 (gainOf m xs j) gain-fits ∙ gain-means m xs j
+
+-- the gains of a block
+abbrev pub gainsFrom : ℕ → List ℤ → ℕ → List ℤ
+gainsFrom m xs j = tabulate 128 (λ k. gain m xs (j + k))
+
+module _ (m : ℕ) (xs : List ℤ) (j : ℕ) where
+  pub gains-length : length (gainsFrom m xs j) ≡ 128
+  gains-length = tabulate-length 128 (λ k. gain m xs (j + k))
+
+  pub gains-entry : (k : ℕ) → k < 128 → at (gainsFrom m xs j) k ≡ gain m xs (j + k)
+  gains-entry k below = tabulate-entry 128 (λ k. gain m xs (j + k)) (pos 0) k below
 
 -- ---- second differences raised by 2^42
 abbrev pub raisedDifference : ℕ → List ℤ → ℕ → ℕ
@@ -94,12 +130,12 @@ module _ (m : ℕ) (xs : List ℤ) (unrefused : recordRefusal modifiedDemand m x
   pub modified-grows : {next : Wide} → next ≡ wideSum total (halves (square (read y))) → next ≡ halves (modifiedSoFar m xs (j + 1))
   modified-grows = square-taken-in (windowSum m xs) j window-small modified-below total-is y-is
 
--- ---- the window: s is its bits, or w itself, and y and z are second differences that calls gave
+-- ---- the window: s is its bits, or w itself, and y is what a call gave, a second difference or a gain
 abbrev pub grown : ℕ → List ℤ → ℕ → ℕ → ℤ → Expression
 grown m xs i s y = s ∋ firstSoFar m xs i ⊕ ofZ w64 y ∋ difference m xs i
 
-abbrev pub moved : ℕ → List ℤ → ℕ → ℤ → ℤ → ℤ → Expression
-moved m xs j w y z = ofZ w64 w ∋ windowSum m xs j ⊕ ofZ w64 y ∋ difference m xs (j + m) ⊖ ofZ w64 z ∋ difference m xs j
+abbrev pub moved : ℕ → List ℤ → ℕ → ℤ → ℤ → Expression
+moved m xs j w y = ofZ w64 w ∋ windowSum m xs j ⊕ ofZ w64 y ∋ gain m xs j
 
 module _ (m : ℕ) (xs : List ℤ) (unrefused : recordRefusal modifiedDemand m xs ≡ none) where
   abbrev record-sound : Sound modifiedDemand m xs
@@ -135,22 +171,44 @@ module _ (m : ℕ) (xs : List ℤ) (unrefused : recordRefusal modifiedDemand m x
       machine-is w64 (s ∋ windowSum m xs j)
       (s-is, small-fits (windowSum m xs j) (omega (arith, window-fits-word m xs (record-sound .bounded) (record-sound .factor-most) j)))
 
-  module _ (j : ℕ) {w y z : ℤ} (w-is : w ≡ windowSum m xs j) (y-is : y ≡ difference m xs (j + m)) (z-is : z ≡ difference m xs j) where
-    pub window-moves-fits : Fit w64 (moved m xs j w y z)
+  module _ (j : ℕ) {w y : ℤ} (w-is : w ≡ windowSum m xs j) (y-is : y ≡ gain m xs j) where
+    pub window-moves-fits : Fit w64 (moved m xs j w y)
     window-moves-fits =
         omega (
           arith,
           ap (ofZ w64) w-is,
           ap (ofZ w64) y-is,
-          ap (ofZ w64) z-is,
           record-sound .factor-most,
           window-within m xs (record-sound .bounded) j,
-          difference-within m xs (record-sound .bounded) (j + m),
-          difference-within m xs (record-sound .bounded) j,
+          gain-within m xs (record-sound .bounded) j,
           size-is (windowSum m xs j),
-          size-is (difference m xs (j + m)),
-          size-is (difference m xs j),
+          size-is (gain m xs j),
         )
 
-    pub window-moves : machine w64 (moved m xs j w y z) ≡ windowSum m xs (j + 1)
-    window-moves = machine-is w64 (moved m xs j w y z) window-moves-fits ∙ sym (window-slides-on m xs j)
+    pub window-moves : machine w64 (moved m xs j w y) ≡ windowSum m xs (j + 1)
+    window-moves = machine-is w64 (moved m xs j w y) window-moves-fits ∙ sym (window-gains m xs j)
+
+  -- ---- a block: gs are its gains, w the window before it
+  module _ (j : ℕ) (inside : j + 128 + 3 * m ≤ length xs) {w : ℤ} {gs : List ℤ} (w-is : w ≡ windowSum m xs j) (gs-are : gs ≡ gainsFrom m xs j) where
+    pub block-window : (k : ℕ) → k ≤ 128 → windowAt w gs k ≡ windowSum m xs (j + k)
+    block-window k few =
+        rw (w-is, gs-are, sumℤ-equal k (at (gainsFrom m xs j)) (λ i. gain m xs (j + i)) (λ i below. gains-entry m xs j i (omega arith))) (window-after m xs j k)
+
+    pub block-within : (k : ℕ) → k ≤ 128 → natAbs (windowAt w gs k) ≤ m * 2 ^ 42
+    block-within k few = rw (block-window k few) (window-within m xs (record-sound .bounded) (j + k))
+
+    block-squares : sum 128 (λ k. square (windowAt w gs (k + 1))) ≡ sum 128 (λ k. square (windowSum m xs (j + 1 + k)))
+    block-squares = sum-equal 128 _ _ (λ k below.
+        let next : j + (k + 1) ≡ j + 1 + k = omega arith in
+        ap square (block-window (k + 1) (omega arith) ∙ ap (windowSum m xs) next))
+
+    blocks-below : modifiedSoFar m xs (j + 1 + 128) < 2 ^ 126
+    blocks-below = modified-so-far-below m xs (record-sound .bounded) (record-sound .factor-most) (j + 1 + 128) (omega (arith, record-sound .not-too-many, record-sound .factor-least))
+
+    pub block-grows : {total squares next : Wide} → total ≡ halves (modifiedSoFar m xs (j + 1)) → squares ≡ halves (sum 128 (λ k. square (windowAt w gs (k + 1)))) →
+        next ≡ wideSum total squares → next ≡ halves (modifiedSoFar m xs (j + 128 + 1))
+    block-grows total-is squares-are next-is =
+        let more : modifiedSoFar m xs (j + 1 + 128) ≡ modifiedSoFar m xs (j + 1) + sum 128 (λ k. square (windowSum m xs (j + 1 + k))) =
+        sum-split (j + 1) 128 (λ i. square (windowSum m xs i)) in
+        let after : j + 1 + 128 ≡ j + 128 + 1 = omega arith in
+        sum-grows _ _ total-is (squares-are ∙ ap halves block-squares) next-is (rw more at blocks-below) ∙ ap halves (sym more ∙ ap (modifiedSoFar m xs) after)

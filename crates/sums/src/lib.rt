@@ -1,5 +1,6 @@
 // The published sums of a phase record. The checks of a record are those of crate record; variances, drawing and the running meter are left to
 // others.
+mod blocks;
 mod squares;
 mod totals;
 

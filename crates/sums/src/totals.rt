@@ -1,11 +1,14 @@
 // The sums over a record that was checked: second differences, the window that slides over them, and the totals of their squares.
+use crate::blocks;
 use crate::squares;
 use crate::squares::Parts;
 use wide::Wide;
 ghost use mathlib.Core.Path.{_≡_};
 ghost use Prim.Native.Nat.{_+_, _*_, _^_, _≤_, _<_};
 ghost use lib.ListN.{length};
-ghost use Rattle.laws.specs.Sums.{sum};
+ghost use lib.IntN.{_-ℤ_};
+ghost use Rattle.laws.specs.Sums.{sum, square};
+ghost use Rattle.laws.specs.Lists.{tabulate};
 ghost use Rattle.laws.proofs.Squares.{raised};
 ghost use Rattle.wide.specs.Wide.{halves};
 ghost use Rattle.record.specs.Refusals.{none, rangeRefusal, recordRefusal};
@@ -31,9 +34,10 @@ pub(crate) fn modified_total(samples: &[i64], m: usize) -> Wide
     requires { ⌜ recordRefusal modifiedDemand m (now samples) ≡ none ⌝ }
     ensures { λ r. ⌜ r ≡ halves (modifiedSum m (now (samples .entry))) ⌝ }
 {
-    let mut window = first_window(samples, m);
-    let mut total = wide::with_square(Wide { hi: 0, lo: 0 }, window);
-    let mut j: usize = 0;
+    let blocks = whole_blocks(samples, m);
+    let mut window = blocks.window;
+    let mut total = blocks.total;
+    let mut j = blocks.j;
     let last = samples.len() - 3 * m;
     while j < last {
         window = slid(samples, m, j, window);
@@ -41,6 +45,53 @@ pub(crate) fn modified_total(samples: &[i64], m: usize) -> Wide
         j += 1;
     }
     total
+}
+
+// The squares of S_0 to S_j, and S_j.
+struct Windows {
+    pub j: usize,
+    pub window: i64,
+    pub total: Wide,
+}
+
+// As many windows as whole blocks have.
+fn whole_blocks(samples: &[i64], m: usize) -> Windows
+    requires { ⌜ recordRefusal modifiedDemand m (now samples) ≡ none ⌝ }
+    ensures { λ r. ⌜ (r .j + 3 * m ≤ length (now (samples .entry))) × (r .window ≡ windowSum m (now (samples .entry)) (r .j)) × (r .total ≡ halves (sum (r .j + 1) (λ j. square (windowSum m (now (samples .entry)) j)))) ⌝ }
+{
+    let mut window = first_window(samples, m);
+    let mut total = wide::with_square(Wide { hi: 0, lo: 0 }, window);
+    let mut gains = [0i64; 128];
+    let mut j: usize = 0;
+    let last = samples.len() - 3 * m;
+    while 128 <= last - j {
+        write_gains(samples, m, j, &mut gains);
+        let block = blocks::windows(&gains, m as u64, window);
+        window = block.window;
+        total = wide::sum(total, block.squares);
+        j += 128;
+    }
+    Windows { j, window, total }
+}
+
+// What the window gains as it moves on from j to j + 128, place by place.
+fn write_gains(samples: &[i64], m: usize, j: usize, gains: &mut [i64; 128])
+    requires { ⌜ (rangeRefusal (now samples) ≡ none) × (j + 128 + 3 * m ≤ length (now samples)) × (length (now gains) ≡ 128) ⌝ }
+    ensures { λ r. ⌜ now (gains .exit) ≡ tabulate 128 (λ k. d m (now (samples .entry)) (j + k + m) -ℤ d m (now (samples .entry)) (j + k)) ⌝ }
+{
+    let mut k: usize = 0;
+    while k < 128 {
+        gains[k] = gain(samples, m, j + k);
+        k += 1;
+    }
+}
+
+// What the window gains as it moves on from j: d_(j+m) - d_j, a third difference of the samples.
+fn gain(samples: &[i64], m: usize, j: usize) -> i64
+    requires { ⌜ (rangeRefusal (now samples) ≡ none) × (j + 3 * m < length (now samples)) ⌝ }
+    ensures { λ r. ⌜ r ≡ d m (now (samples .entry)) (j + m) -ℤ d m (now (samples .entry)) j ⌝ }
+{
+    samples[j + 3 * m] - 3 * samples[j + 2 * m] + 3 * samples[j + m] - samples[j]
 }
 
 // The sums by parts over all second differences, each raised by 2^42.
@@ -85,12 +136,12 @@ fn first_window(samples: &[i64], m: usize) -> i64
     window
 }
 
-// S_(j+1) from S_j: the window takes in one second difference and lets one go.
+// S_(j+1) from S_j.
 fn slid(samples: &[i64], m: usize, j: usize, window: i64) -> i64
     requires { ⌜ (recordRefusal modifiedDemand m (now samples) ≡ none) × (j + 3 * m < length (now samples)) × (window ≡ windowSum m (now samples) j) ⌝ }
     ensures { λ r. ⌜ r ≡ windowSum m (now (samples .entry)) (j + 1) ⌝ }
 {
-    window + difference(samples, m, j + m) - difference(samples, m, j)
+    window + gain(samples, m, j)
 }
 
 // The second difference d_i of samples in range.

@@ -1,12 +1,11 @@
 -- `sums::totals::modified_total` meets its contract. The loop's invariant: the window holds S_j, and the total holds the squares of S_0 to S_j.
 use borrow.Author.Needs.{needs}
-use mathlib.Core.Path.{_≡_, sym, ap, _∙_}
+use mathlib.Core.Path.{_≡_, ap, _∙_}
 use Prim.Native.Nat.{_≤_, _+_, _-_, _*_}
 use native.Mathlib.Omega.{arith}
 use lib.ListN.{length}
 use mir.Syntax.{w64}
 use mir.Val.{ofZ}
-use Rattle.laws.proofs.SumLaws.{sum-zero}
 use Rattle.wide.specs.Wide.{halves}
 use Rattle.record.proofs.RefusalLaws.{none-sound}
 use Rattle.sums.specs.Published.{windowSum}
@@ -23,35 +22,26 @@ Inv-loop samples m window₀ total₀ j₀ last window total j =
 abbrev μ-loop : tie.MeasureT-loop
 μ-loop samples m window₀ total₀ j₀ last window total j = last - j
 
-first-window-requires : tie.Need-first-window-requires Inv-loop μ-loop
-first-window-requires c κs = c .pre
-
-with-square-requires : tie.Need-with-square-requires Inv-loop μ-loop
-with-square-requires c κs = search needs
+whole-blocks-requires : tie.Need-whole-blocks-requires Inv-loop μ-loop
+whole-blocks-requires c κs = c .pre
 
 mul-last : tie.Need-mul-last Inv-loop μ-loop
-mul-last c = omega (arith, none-sound modifiedDemand _ _ (c .before .before .pre) .enough)
+mul-last c = omega (arith, none-sound modifiedDemand _ _ (c .before .before .before .pre) .enough)
 
 sub-last : tie.Need-sub-last Inv-loop μ-loop
-sub-last c = omega (arith, none-sound modifiedDemand _ _ (c .before .before .pre) .enough)
+sub-last c = omega (arith, none-sound modifiedDemand _ _ (c .before .before .before .pre) .enough)
 
 loop-holds : tie.Need-loop-holds Inv-loop μ-loop
-loop-holds c =
-    let p = c .before .before .pre in (
-      omega arith,
-      omega arith,
-      ap (ofZ w64) (c .before .first-window .ensures),
-      modified-grows _ _ p 0 (omega (arith, none-sound modifiedDemand _ _ p .enough)) (ap halves (sym (sum-zero _))) (c .before .first-window .ensures) (c .with-square .ensures),
-    )
+loop-holds c = let done = c .before .before .whole-blocks .ensures in (omega (arith, done .0), omega arith, ap (ofZ w64) (done .1), done .2)
 
 slid-requires : tie.Need-slid-requires Inv-loop μ-loop
 slid-requires c κs =
     let h = c .before in
-    let p = h .before .before .before .pre in
+    let p = h .before .before .before .before .pre in
     (p, omega arith, window-read _ _ p (h .loop .j) (h .loop .window) (h .loop .inv .2))
 
-with-square-requires-2 : tie.Need-with-square-requires-2 Inv-loop μ-loop
-with-square-requires-2 c κs = search needs
+with-square-requires : tie.Need-with-square-requires Inv-loop μ-loop
+with-square-requires c κs = search needs
 
 add-j : tie.Need-add-j Inv-loop μ-loop
 add-j c = omega arith
@@ -65,13 +55,13 @@ loop-again c =
       omega arith,
       omega arith,
       ap (ofZ w64) (c .before .slid .ensures),
-      modified-grows _ _ (h .before .before .before .pre) (h .loop .j + 1) (omega arith) (h .loop .inv .3) (c .before .slid .ensures) (c .with-square2 .ensures),
+      modified-grows _ _ (h .before .before .before .before .pre) (h .loop .j + 1) (omega arith) (h .loop .inv .3) (c .before .slid .ensures) (c .with-square .ensures),
     )
 
 returns : tie.Need-returns Inv-loop μ-loop
 returns c =
     let h = c .before in
-    h .loop .inv .3 ∙ ap halves (modified-sum-is _ _ (h .loop .j + 1) (omega (arith, none-sound modifiedDemand _ _ (h .before .before .before .pre) .enough)))
+    h .loop .inv .3 ∙ ap halves (modified-sum-is _ _ (h .loop .j + 1) (omega (arith, none-sound modifiedDemand _ _ (h .before .before .before .before .pre) .enough)))
 
 pub modified-total-spec : {M : Type 1} → statement M
 modified-total-spec =
@@ -79,13 +69,12 @@ modified-total-spec =
     (tie.spec
     Inv-loop
     μ-loop
-    first-window-requires
-    with-square-requires
+    whole-blocks-requires
     mul-last
     sub-last
     loop-holds
     slid-requires
-    with-square-requires-2
+    with-square-requires
     add-j
     loop-less
     loop-again
