@@ -1,0 +1,84 @@
+//! The table of ratios: the library against straightforward Rust, work by work. Both sides must give the same answer before they are timed.
+
+use crate::streams::{library_stream, plain_stream, wrapped_stream};
+use crate::timing::medians;
+use crate::{straightforward, LENGTH, TURNS};
+use independent::file::{file_of, Kind};
+use ploegelster::Meter;
+use std::hint::black_box;
+
+const FACTORS: [u64; 3] = [1, 100, 5_000];
+
+pub fn table(samples: &[i64]) {
+    println!("| work | m | library | plain Rust | ratio |");
+    println!("|---|---|---|---|---|");
+    for m in FACTORS {
+        allan_sum(samples, m);
+        modified_sum(samples, m);
+    }
+    for m in [1, 100] {
+        float_sums(&readings(samples), m);
+    }
+    for m in FACTORS {
+        meter(samples, m, "meter, a sample", library_stream);
+    }
+    for m in FACTORS {
+        meter(samples, m, "meter, a sample, by the wrapper", wrapped_stream);
+    }
+    file(samples);
+}
+
+/// The samples with none to nine tenths added, so that nine of ten readings have a fraction.
+fn readings(samples: &[i64]) -> Vec<f64> {
+    samples.iter().enumerate().map(|(i, &x)| x as f64 + (i % 10) as f64 / 10.0).collect()
+}
+
+/// Times both sides in turn and prints a line: the medians, and their ratio.
+fn compare<T, U>(work: &str, m: u64, library: impl FnMut() -> T, plain: impl FnMut() -> U) {
+    let (ours, theirs) = medians(TURNS, library, plain);
+    let of_one = |median: f64| median / LENGTH as f64;
+    let factor = if m == 0 { String::new() } else { m.to_string() };
+    println!("| {work} | {factor} | {:.2} | {:.2} | {:.2} |", of_one(ours), of_one(theirs), ours / theirs);
+}
+
+fn allan_sum(samples: &[i64], m: u64) {
+    let ours = ploegelster::allan_sum(samples, m).expect("the record is sound");
+    assert_eq!(Ok((ours.total, ours.count)), straightforward::allan_sum(samples, m));
+    compare("Allan sum", m, || ploegelster::allan_sum(black_box(samples), m), || straightforward::allan_sum(black_box(samples), m));
+}
+
+fn modified_sum(samples: &[i64], m: u64) {
+    let ours = ploegelster::modified_sum(samples, m).expect("the record is sound");
+    assert_eq!(Ok((ours.total, ours.count)), straightforward::modified_sum(samples, m));
+    compare("modified sum", m, || ploegelster::modified_sum(black_box(samples), m), || straightforward::modified_sum(black_box(samples), m));
+}
+
+fn float_sums(readings: &[f64], m: u64) {
+    let (mut buffer, mut plain_buffer) = (vec![0; LENGTH], vec![0; LENGTH]);
+    let ours = ploegelster::float_sums(readings, m, &mut buffer).expect("the readings are sound");
+    let pair = |sum: ploegelster::Sum| (sum.total, sum.count);
+    let ours = (pair(ours.allan), ours.modified.map(pair), ours.changed);
+    assert_eq!(Ok(ours), straightforward::float_sums(readings, m, &mut plain_buffer));
+    assert_eq!(buffer, plain_buffer);
+    let library = || ploegelster::float_sums(black_box(readings), m, &mut buffer);
+    compare("float sums", m, library, || straightforward::float_sums(black_box(readings), m, &mut plain_buffer));
+}
+
+fn meter(samples: &[i64], m: u64, work: &str, stream: fn(&[i64], u64, &mut [i64]) -> Meter) {
+    let (mut ring, mut plain_ring) = (vec![0; 3 * m as usize], vec![0; 3 * m as usize]);
+    let (ours, theirs) = (stream(samples, m, &mut ring), plain_stream(samples, m, &mut plain_ring));
+    assert_eq!((u128::from(ours.a), u128::from(ours.b), ours.window), (theirs.a, theirs.b, theirs.window));
+    assert_eq!(ring, plain_ring);
+    let library = || stream(black_box(samples), m, &mut ring);
+    compare(work, m, library, || plain_stream(black_box(samples), m, &mut plain_ring));
+}
+
+fn file(samples: &[i64]) {
+    let bytes = file_of(Kind::Phase, samples);
+    let (mut buffer, mut plain_buffer) = (vec![0; LENGTH], vec![0; LENGTH]);
+    let ours = ploegelster::read_file(&bytes, &mut buffer).expect("the file is sound");
+    assert_eq!(Ok((ours.kind.number(), ours.count as u64)), straightforward::read_file(&bytes, &mut plain_buffer));
+    assert_eq!(buffer, plain_buffer);
+    let library = || ploegelster::read_file(black_box(&bytes), &mut buffer);
+    compare("file read", 0, library, || straightforward::read_file(black_box(&bytes), &mut plain_buffer));
+}

@@ -1,0 +1,31 @@
+//! Medians of many turns' times.
+
+use std::hint::black_box;
+use std::time::Instant;
+
+/// The nanoseconds of one turn.
+fn turn<T>(work: &mut impl FnMut() -> T) -> u64 {
+    let start = Instant::now();
+    black_box(work());
+    start.elapsed().as_nanos() as u64
+}
+
+fn middle(mut times: Vec<u64>) -> f64 {
+    times.sort();
+    times[times.len() / 2] as f64
+}
+
+/// The median turn's nanoseconds of two sides that work in turn, each of them first in every other turn.
+pub fn medians<T, U>(turns: usize, mut one: impl FnMut() -> T, mut other: impl FnMut() -> U) -> (f64, f64) {
+    let (mut ones, mut others) = (Vec::new(), Vec::new());
+    for number in 0..turns {
+        if number % 2 == 0 {
+            ones.push(turn(&mut one));
+            others.push(turn(&mut other));
+        } else {
+            others.push(turn(&mut other));
+            ones.push(turn(&mut one));
+        }
+    }
+    (middle(ones), middle(others))
+}
