@@ -16,7 +16,7 @@ pub fn table(samples: &[i64]) {
         allan_sum(samples, m);
         modified_sum(samples, m);
     }
-    for m in [1, 100] {
+    for m in FACTORS {
         float_sums(&readings(samples), m);
     }
     for m in FACTORS {
