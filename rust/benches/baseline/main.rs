@@ -5,6 +5,8 @@ mod straightforward;
 mod streams;
 mod timing;
 
+use std::hint::black_box;
+
 const LENGTH: usize = 32_768;
 const TURNS: usize = 1_001;
 
@@ -21,5 +23,6 @@ fn samples() -> Vec<i64> {
 fn main() {
     let samples = samples();
     println!("{LENGTH} values, medians of {TURNS} turns, nanoseconds a value\n");
+    timing::warm_up(|| ploegelster::allan_sum(black_box(&samples), 1));
     ratios::table(&samples);
 }

@@ -1,7 +1,17 @@
 //! Medians of many turns' times.
 
 use std::hint::black_box;
-use std::time::Instant;
+use std::time::{Duration, Instant};
+
+const WARMING: Duration = Duration::from_millis(200);
+
+/// Works for a while unmeasured, since the first figures would be those of a processor that is not at its speed yet.
+pub fn warm_up<T>(mut work: impl FnMut() -> T) {
+    let start = Instant::now();
+    while start.elapsed() < WARMING {
+        black_box(work());
+    }
+}
 
 /// The nanoseconds of one turn.
 fn turn<T>(work: &mut impl FnMut() -> T) -> u64 {
