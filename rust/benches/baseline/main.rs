@@ -1,5 +1,6 @@
 //! The library's time against straightforward Rust, as ratios of one run. Both sides work in turn, and the medians of many turns are compared.
 
+mod naive;
 mod ratios;
 mod straightforward;
 mod streams;
@@ -22,7 +23,7 @@ fn samples() -> Vec<i64> {
 
 fn main() {
     let samples = samples();
-    println!("{LENGTH} values, medians of {TURNS} turns, nanoseconds a value\n");
+    println!("{LENGTH} values, medians of {TURNS} turns, of the naive sum {}, nanoseconds a value\n", naive::TURNS);
     timing::warm_up(|| ploegelster::allan_sum(black_box(&samples), 1));
     ratios::table(&samples);
 }

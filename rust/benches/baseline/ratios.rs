@@ -2,16 +2,18 @@
 
 use crate::streams::{library_stream, plain_stream, wrapped_stream};
 use crate::timing::medians;
-use crate::{straightforward, LENGTH, TURNS};
+use crate::{naive, straightforward, LENGTH, TURNS};
 use independent::file::{file_of, Kind};
 use ploegelster::Meter;
 use std::hint::black_box;
 
 const FACTORS: [u64; 3] = [1, 100, 5_000];
+/// The one at which the naive sum is timed beside the other two.
+const NAIVE_FACTOR: u64 = 100;
 
 pub fn table(samples: &[i64]) {
-    println!("| work | m | library | plain Rust | ratio |");
-    println!("|---|---|---|---|---|");
+    println!("| work | m | library | plain Rust | naive Rust | ratio |");
+    println!("|---|---|---|---|---|---|");
     for m in FACTORS {
         allan_sum(samples, m);
         modified_sum(samples, m);
@@ -33,12 +35,17 @@ fn readings(samples: &[i64]) -> Vec<f64> {
     samples.iter().enumerate().map(|(i, &x)| x as f64 + (i % 10) as f64 / 10.0).collect()
 }
 
-/// Times both sides in turn and prints a line: the medians, and their ratio.
-fn compare<T, U>(work: &str, m: u64, library: impl FnMut() -> T, plain: impl FnMut() -> U) {
-    let (ours, theirs) = medians(TURNS, library, plain);
-    let of_one = |median: f64| median / LENGTH as f64;
+/// A line of the table, from medians of whole turns: the naive sum's only where it was timed, and the ratio of the other two.
+fn line(work: &str, m: u64, (library, plain): (f64, f64), naive: Option<f64>) {
+    let of_one = |median: f64| format!("{:.2}", median / LENGTH as f64);
     let factor = if m == 0 { String::new() } else { m.to_string() };
-    println!("| {work} | {factor} | {:.2} | {:.2} | {:.2} |", of_one(ours), of_one(theirs), ours / theirs);
+    let naive = naive.map_or(String::new(), of_one);
+    println!("| {work} | {factor} | {} | {} | {naive} | {:.2} |", of_one(library), of_one(plain), library / plain);
+}
+
+/// Times both sides in turn and prints their line.
+fn compare<T, U>(work: &str, m: u64, library: impl FnMut() -> T, plain: impl FnMut() -> U) {
+    line(work, m, medians(TURNS, library, plain), None);
 }
 
 fn allan_sum(samples: &[i64], m: u64) {
@@ -50,7 +57,9 @@ fn allan_sum(samples: &[i64], m: u64) {
 fn modified_sum(samples: &[i64], m: u64) {
     let ours = ploegelster::modified_sum(samples, m).expect("the record is sound");
     assert_eq!(Ok((ours.total, ours.count)), straightforward::modified_sum(samples, m));
-    compare("modified sum", m, || ploegelster::modified_sum(black_box(samples), m), || straightforward::modified_sum(black_box(samples), m));
+    let library = || ploegelster::modified_sum(black_box(samples), m);
+    let both = medians(TURNS, library, || straightforward::modified_sum(black_box(samples), m));
+    line("modified sum", m, both, (m == NAIVE_FACTOR).then(|| naive::nanoseconds(samples, m)));
 }
 
 fn float_sums(readings: &[f64], m: u64) {

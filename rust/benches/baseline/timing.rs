@@ -25,7 +25,12 @@ fn middle(mut times: Vec<u64>) -> f64 {
     times[times.len() / 2] as f64
 }
 
-/// The median turn's nanoseconds of two sides that work in turn, each of them first in every other turn.
+/// The median turn's nanoseconds.
+pub fn median<T>(turns: usize, mut work: impl FnMut() -> T) -> f64 {
+    middle((0..turns).map(|_| turn(&mut work)).collect())
+}
+
+/// The same for two sides that work in turn, each of them first in every other turn.
 pub fn medians<T, U>(turns: usize, mut one: impl FnMut() -> T, mut other: impl FnMut() -> U) -> (f64, f64) {
     let (mut ones, mut others) = (Vec::new(), Vec::new());
     for number in 0..turns {
