@@ -1,5 +1,7 @@
-//! The library's time against straightforward Rust, as ratios of one run. Both sides work in turn, and the medians of many turns are compared.
+//! The library's time, as Markdown tables: against straightforward Rust, as ratios of one run, and by itself, as the record or the factor grows.
+//! `docs/benchmarks.py` reads what is printed here.
 
+mod growth;
 mod naive;
 mod ratios;
 mod straightforward;
@@ -23,7 +25,9 @@ fn samples() -> Vec<i64> {
 
 fn main() {
     let samples = samples();
-    println!("{LENGTH} values, medians of {TURNS} turns, of the naive sum {}, nanoseconds a value\n", naive::TURNS);
+    println!("Medians of {TURNS} turns, of the naive sum {}: nanoseconds a value of {LENGTH} in ratios, microseconds in times.\n", naive::TURNS);
     timing::warm_up(|| ploegelster::allan_sum(black_box(&samples), 1));
     ratios::table(&samples);
+    growth::against_length(&samples);
+    growth::against_factor(&samples);
 }

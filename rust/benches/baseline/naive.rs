@@ -6,7 +6,7 @@ use crate::timing::median;
 use std::hint::black_box;
 
 const END: i64 = 1 << 40;
-/// Fewer than of the others, since a turn at m = 100 takes some hundred times as long.
+/// Fewer than the others have, since a turn at m = 100 takes many times as long.
 pub const TURNS: usize = 101;
 
 #[inline(never)]

@@ -12,6 +12,7 @@ const FACTORS: [u64; 3] = [1, 100, 5_000];
 const NAIVE_FACTOR: u64 = 100;
 
 pub fn table(samples: &[i64]) {
+    println!("## Ratios\n");
     println!("| work | m | library | plain Rust | naive Rust | ratio |");
     println!("|---|---|---|---|---|---|");
     for m in FACTORS {
