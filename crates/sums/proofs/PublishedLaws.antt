@@ -123,9 +123,6 @@ module _ (m : ℕ) (xs : List ℤ) (bounded : (k : ℕ) → natAbs (at xs k) ≤
   pub modified-within : (n : ℕ) → modifiedSoFar m xs n ≤ n * (m * m * 2 ^ 84)
   modified-within n = sum-within n (λ j. square (windowSum m xs j)) (m * m * 2 ^ 84) (λ j below. window-square-within j)
 
-  pub difference-fits-word : (i : ℕ) → natAbs (difference m xs i) ≤ 2 ^ 62
-  difference-fits-word i = omega (arith, difference-within i)
-
   pub allan-so-far-below : (n : ℕ) → n ≤ 32768 → allanSoFar m xs n < 2 ^ 126
   allan-so-far-below n few = omega (arith, allan-within n)
 

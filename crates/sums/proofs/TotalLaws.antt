@@ -23,7 +23,7 @@ use Rattle.record.proofs.RefusalLaws.{none-sound, Sound, range-bounded}
 use Rattle.sums.specs.Published.{difference, allanCount, windowSum}
 use Rattle.sums.specs.Answers.{allanDemand, modifiedDemand}
 use Rattle.sums.proofs.BlockLaws.{windowAt}
-use Rattle.sums.proofs.PublishedLaws.{differenceOf, difference-means, allanSoFar, firstSoFar, modifiedSoFar, first-step, first-within, first-window-is, gain, gainOf, gain-means, gain-within, window-gains, window-after, difference-within, difference-fits-word, window-within, window-fits-word, allan-so-far-below, modified-so-far-below}
+use Rattle.sums.proofs.PublishedLaws.{differenceOf, difference-means, firstSoFar, modifiedSoFar, first-step, first-within, first-window-is, gain, gainOf, gain-means, gain-within, window-gains, window-after, difference-within, window-within, window-fits-word, modified-so-far-below}
 
 -- ---- a second difference
 module _ (m : ℕ) (xs : List ℤ) (i : ℕ) (unrefused : rangeRefusal xs ≡ none) where
@@ -100,21 +100,7 @@ square-taken-in f n small below {y = y} total-is y-is next-is =
     sum-grows (sum n (λ i. square (f i))) (square (f n)) total-is (ap (λ (t : ℤ). halves (square t)) read-is) next-is (rw more at below)
     ∙ ap halves (sym more)
 
--- ---- one turn of each loop
-
-module _ (m : ℕ) (xs : List ℤ) (unrefused : recordRefusal allanDemand m xs ≡ none) (i : ℕ) (i-below : i < length xs)
-    {total : Wide} {y : ℤ} (total-is : total ≡ halves (allanSoFar m xs i)) (y-is : y ≡ difference m xs i) where
-  allan-sound : Sound allanDemand m xs
-  allan-sound = none-sound allanDemand m xs unrefused
-
-  difference-small : natAbs (difference m xs i) ≤ 2 ^ 62
-  difference-small = difference-fits-word m xs (allan-sound .bounded) i
-
-  allan-below : allanSoFar m xs (i + 1) < 2 ^ 126
-  allan-below = allan-so-far-below m xs (allan-sound .bounded) (i + 1) (omega (arith, allan-sound .not-too-many))
-
-  pub allan-grows : {next : Wide} → next ≡ wideSum total (halves (square (read y))) → next ≡ halves (allanSoFar m xs (i + 1))
-  allan-grows = square-taken-in (difference m xs) i difference-small allan-below total-is y-is
+-- ---- one window more
 
 module _ (m : ℕ) (xs : List ℤ) (unrefused : recordRefusal modifiedDemand m xs ≡ none) (j : ℕ) (j-below : j + 3 * m ≤ length xs)
     {total : Wide} {y : ℤ} (total-is : total ≡ halves (modifiedSoFar m xs j)) (y-is : y ≡ windowSum m xs j) where

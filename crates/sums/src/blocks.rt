@@ -9,6 +9,11 @@ ghost use Rattle.laws.specs.Lists.{at};
 ghost use Rattle.laws.proofs.Parts.{plus, minus};
 ghost use Rattle.wide.specs.Wide.{halves, wideSum};
 
+// How many windows a block has.
+pub(crate) const BLOCK: usize = 128;
+// What raises a window, for each second difference in it: 2^42.
+const RISE: u64 = 4398046511104;
+
 // The last window of a block, and the sum of the squares of all.
 pub(crate) struct Block {
     pub window: i64,
@@ -16,16 +21,16 @@ pub(crate) struct Block {
 }
 
 // The 128 windows after one, each raised by m * 2^42 so that none is below nought.
-pub(crate) fn windows(gains: &[i64; 128], m: u64, window: i64) -> Block
+pub(crate) fn windows(gains: &[i64; BLOCK], m: u64, window: i64) -> Block
     requires { ⌜ (m ≤ 10922) × ((k : ℕ) → k ≤ 128 → natAbs (window +ℤ sumℤ k (at (now gains))) ≤ m * 2 ^ 42) ⌝ }
     ensures { λ r. ⌜ (r .window ≡ window +ℤ sumℤ 128 (at (now (gains .entry)))) × (r .squares ≡ halves (sum 128 (λ k. square (window +ℤ sumℤ (k + 1) (at (now (gains .entry))))))) ⌝ }
 {
-    let rise = m * 4398046511104;
+    let rise = m * RISE;
     let mut high = moved_by(rise, window);
     let mut total = Wide { hi: 0, lo: 0 };
     let mut raised: u64 = 0;
     let mut k: usize = 0;
-    while k < 128 {
+    while k < BLOCK {
         high = moved_by(high, gains[k]);
         total = with_square(total, high);
         raised += high;
@@ -33,7 +38,7 @@ pub(crate) fn windows(gains: &[i64; 128], m: u64, window: i64) -> Block
     }
     Block {
         window: high as i64 - rise as i64,
-        squares: squares::lowered(total, raised, m, 128),
+        squares: squares::lowered(total, raised, m, BLOCK as u64),
     }
 }
 

@@ -33,8 +33,8 @@ pub(crate) fn joined(parts: Parts) -> Wide
     ensures { λ r. ⌜ r ≡ halves (parts .high * 2 ^ 44 + parts .cross * 2 ^ 23 + parts .low) ⌝ }
 {
     let upper = wide::sum(
-        wide::product(parts.high, 17592186044416),
-        wide::product(parts.cross, 8388608),
+        wide::product(parts.high, HIGH_WEIGHT),
+        wide::product(parts.cross, CROSS_WEIGHT),
     );
     let low = parts.low;
     wide::sum(upper, Wide { hi: 0, lo: low })
@@ -45,6 +45,7 @@ pub(crate) fn lowered(squares: Wide, raised: u64, m: u64, count: u64) -> Wide
     requires { ⌜ (m ≤ 10922) × (count ≤ 32768) × (value squares + count * (m * m * 2 ^ 84) < 2 ^ 126) × (raised * (m * 2 ^ 43) ≤ value squares + count * (m * m * 2 ^ 84)) ⌝ }
     ensures { λ r. ⌜ r ≡ halves (value squares + count * (m * m * 2 ^ 84) - raised * (m * 2 ^ 43)) ⌝ }
 {
+    // With c = m * 2^42 and u = z + c, z z is u u + c c - 2 c u; c c is m * m * 2^20 in the high half.
     let more = Wide {
         hi: count * (m * m) * 1048576,
         lo: 0,
@@ -57,5 +58,9 @@ pub(crate) fn lowered(squares: Wide, raised: u64, m: u64, count: u64) -> Wide
 
 // What divides a number's parts: 2^22.
 const PART: u64 = 4194304;
+// What a product of two high parts stands for, and twice one of a high and a low part: 2^44, 2^23.
+const HIGH_WEIGHT: u64 = 17592186044416;
+
+const CROSS_WEIGHT: u64 = 8388608;
 // Half a word: 2^32.
 const HALF_WORD: u64 = 4294967296;

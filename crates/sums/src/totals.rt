@@ -1,5 +1,7 @@
-// The sums over a record that was checked: second differences, the window that slides over them, and the totals of their squares.
+// The sums over a record that was checked: second differences, the window that slides over them, and the totals of their squares. How squares are added up
+// in words is left to squares, and how a block of windows is to blocks.
 use crate::blocks;
+use crate::blocks::BLOCK;
 use crate::squares;
 use crate::squares::Parts;
 use wide::Wide;
@@ -61,26 +63,26 @@ fn whole_blocks(samples: &[i64], m: usize) -> Windows
 {
     let mut window = first_window(samples, m);
     let mut total = wide::with_square(Wide { hi: 0, lo: 0 }, window);
-    let mut gains = [0i64; 128];
+    let mut gains = [0i64; BLOCK];
     let mut j: usize = 0;
     let last = samples.len() - 3 * m;
-    while 128 <= last - j {
+    while BLOCK <= last - j {
         write_gains(samples, m, j, &mut gains);
         let block = blocks::windows(&gains, m as u64, window);
         window = block.window;
         total = wide::sum(total, block.squares);
-        j += 128;
+        j += BLOCK;
     }
     Windows { j, window, total }
 }
 
-// What the window gains as it moves on from j to j + 128, place by place.
-fn write_gains(samples: &[i64], m: usize, j: usize, gains: &mut [i64; 128])
+// What the window gains at each place of a block, written first by itself: a machine works several at a time.
+fn write_gains(samples: &[i64], m: usize, j: usize, gains: &mut [i64; BLOCK])
     requires { ⌜ (rangeRefusal (now samples) ≡ none) × (j + 128 + 3 * m ≤ length (now samples)) × (length (now gains) ≡ 128) ⌝ }
     ensures { λ r. ⌜ now (gains .exit) ≡ tabulate 128 (λ k. d m (now (samples .entry)) (j + k + m) -ℤ d m (now (samples .entry)) (j + k)) ⌝ }
 {
     let mut k: usize = 0;
-    while k < 128 {
+    while k < BLOCK {
         gains[k] = gain(samples, m, j + k);
         k += 1;
     }
