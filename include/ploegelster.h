@@ -50,7 +50,7 @@ extern "C" {
 /** The version: the first number changes where a program that used the one before must be changed or compiled anew. */
 #define PLG_VERSION_MAJOR 5
 #define PLG_VERSION_MINOR 0
-#define PLG_VERSION_PATCH 0
+#define PLG_VERSION_PATCH 1
 
 /* ---- limits, ends allowed */
 
