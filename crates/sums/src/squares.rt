@@ -58,9 +58,9 @@ pub(crate) fn lowered(squares: Wide, raised: u64, m: u64, count: u64) -> Wide
 
 // What divides a number's parts: 2^22.
 const PART: u64 = 4194304;
-// What a product of two high parts stands for, and twice one of a high and a low part: 2^44, 2^23.
+// What a product of two high parts stands for: 2^44.
 const HIGH_WEIGHT: u64 = 17592186044416;
-
+// What a product of a high and a low part stands for, which comes twice: 2^23.
 const CROSS_WEIGHT: u64 = 8388608;
 // Half a word: 2^32.
 const HALF_WORD: u64 = 4294967296;
