@@ -5,6 +5,7 @@ mod shared;
 
 use independent::floats;
 use shared::doubles::{any_double, notable, readings};
+use shared::ends::{block_counts, few_extremes};
 use shared::lent::{Lent, Sides};
 use shared::random::Random;
 use shared::records::{factors, lengths, record, rooms};
@@ -162,6 +163,22 @@ fn short_and_long_records() {
         case(&mut tally, &readings, m, room);
     }
     tally.ran(16_000, &[0, 1, 3, 4, 5, 6]);
+}
+
+#[test]
+fn sums_of_readings_where_a_block_of_terms_ends() {
+    let (mut tally, mut random) = (Tally::default(), Random::new(76));
+    for m in [1, 2, 5, 129] {
+        for terms in block_counts() {
+            for length in [terms + 2 * m, terms + 3 * m - 1] {
+                for samples in few_extremes(&mut random, length, m) {
+                    let readings = readings(&mut random, &samples);
+                    case(&mut tally, &readings, m as u64, length);
+                }
+            }
+        }
+    }
+    tally.ran(1_440, &[0]);
 }
 
 /// The count of the longest record is that of its fractions, from none of the readings to all of them.
