@@ -6,6 +6,7 @@ mod shared;
 use independent::file::{self, file_of, Kind};
 use ploegelster::Contents;
 use shared::answers::{expected, Words};
+use shared::ends::{self, block_counts};
 use shared::lent::{Lent, Sides};
 use shared::random::Random;
 use shared::records::rooms;
@@ -192,6 +193,74 @@ fn one_value_outside_at_every_index() {
         }
     }
     tally.ran(1_280, &[0, 3]);
+}
+
+/// A file and its values, read and written with just as much room, where this is the first value outside the kind's range, if one is: two cases.
+fn range_case(tally: &mut Tally, kind: Kind, values: &[i64], first: Option<usize>) {
+    let bytes = file_of(kind, values);
+    read_case(tally, &bytes, values.len());
+    write_case(tally, kind.byte() as u64, values, bytes.len());
+    let told = first.map_or((0, 0), |index| (3, index as u64));
+    let read = raw::read_file(&bytes, &mut vec![0; values.len()]);
+    assert_eq!((read.number, read.place), told, "read, {kind:?}, values {}", shown(values));
+    let written = raw::write_file(kind.byte() as u64, values, &mut vec![0; bytes.len()]);
+    assert_eq!((written.number, written.place), told, "written, {kind:?}, values {}", shown(values));
+}
+
+#[test]
+fn files_where_a_block_of_values_ends() {
+    let (mut tally, mut random) = (Tally::default(), Random::new(81));
+    for kind in KINDS {
+        let end = end_of(kind);
+        for count in block_counts().into_iter().chain([32_766, 32_767]) {
+            let any: Vec<i64> = (0..count).map(|_| random.between(-end, end)).collect();
+            let alternating: Vec<i64> = (0..count).map(|i| if i % 2 == 0 { end } else { -end }).collect();
+            for values in [vec![end; count], vec![-end; count], alternating, any] {
+                range_case(&mut tally, kind, &values, None);
+                let bytes = file_of(kind, &values);
+                for room in [count - 1, count + 1, count + 40] {
+                    read_case(&mut tally, &bytes, room);
+                }
+            }
+        }
+    }
+    tally.ran(2_480, &[0, 6]);
+}
+
+#[test]
+fn values_that_only_together_look_outside() {
+    let mut tally = Tally::default();
+    for kind in KINDS {
+        ends::all_within(end_of(kind), |values| range_case(&mut tally, kind, values, None));
+    }
+    tally.ran(18_000, &[0]);
+}
+
+#[test]
+fn every_value_outside_at_every_index() {
+    let (mut tally, mut random) = (Tally::default(), Random::new(82));
+    for kind in KINDS {
+        ends::one_beyond(&mut random, end_of(kind), |values, index| range_case(&mut tally, kind, values, Some(index)));
+    }
+    tally.ran(216_216, &[3]);
+}
+
+#[test]
+fn several_values_outside() {
+    let (mut tally, mut random) = (Tally::default(), Random::new(83));
+    for kind in KINDS {
+        ends::several_beyond(&mut random, end_of(kind), |values, index| range_case(&mut tally, kind, values, Some(index)));
+    }
+    tally.ran(18_880, &[3]);
+}
+
+#[test]
+fn long_files_with_values_outside_where_a_block_ends() {
+    let (mut tally, mut random) = (Tally::default(), Random::new(84));
+    for (kind, longest) in [(Kind::Phase, 32_768), (Kind::Frequency, 32_767)] {
+        ends::long_beyond(&mut random, end_of(kind), longest, |values, index| range_case(&mut tally, kind, values, Some(index)));
+    }
+    tally.ran(4_512, &[3]);
 }
 
 #[test]

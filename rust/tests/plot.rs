@@ -7,10 +7,11 @@ use independent::noise::{self, Noise};
 use independent::{drawn, Refusal};
 use ploegelster::boundary::Bar;
 use shared::answers::{expected, Words};
+use shared::ends;
 use shared::lent::Lent;
 use shared::random::Random;
 use shared::records::{factors, lengths, maybe_damaged, record};
-use shared::{raw, shown, with_neighbours, Tally};
+use shared::{raw, shown, with_neighbours, Tally, END};
 use std::collections::BTreeSet;
 
 const TOP: u64 = 1 << 62;
@@ -169,6 +170,27 @@ fn noise_of_generated_records() {
     }
     assert!(seen.iter().all(|&times| times > 100), "{seen:?}");
     tally.ran(12_000, &[0, 1, 3, 5, 8]);
+}
+
+/// The noise type of a record is refused 3 at its first sample outside the range, and never where there is none.
+#[test]
+fn noise_of_records_about_the_ends_of_the_range() {
+    let (mut tally, mut random, mut factors) = (Tally::default(), Random::new(74), Random::new(75));
+    let mut case = |samples: &[i64], first: Option<usize>| {
+        // A record of under 6 samples is too short for any factor.
+        if samples.len() >= 6 {
+            let m = factors.between(1, samples.len() as i64 / 6) as u64;
+            record_case(&mut tally, samples, m);
+            let raw = raw::noise_of_record(samples, m);
+            let place = (raw.number == 3).then_some(raw.place as usize);
+            assert_eq!(place, first, "noise of a record, factor {m}, samples {}", shown(samples));
+        }
+    };
+    ends::all_within(END, |samples| case(samples, None));
+    ends::one_beyond(&mut random, END, |samples, index| case(samples, Some(index)));
+    ends::several_beyond(&mut random, END, |samples, index| case(samples, Some(index)));
+    ends::long_beyond(&mut random, END, 32_768, |samples, index| case(samples, Some(index)));
+    tally.ran(60_806, &[0, 3, 8]);
 }
 
 /// The bars of one deviation, alpha and M. Gives the row over the plain C interface, where there is one.

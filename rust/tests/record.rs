@@ -6,6 +6,7 @@ mod shared;
 use independent::{drift, frequency, Answer};
 use ploegelster::boundary::CountAnswer;
 use ploegelster::{Drift, Ground, Refusal};
+use shared::ends;
 use shared::lent::{Lent, Sides};
 use shared::random::Random;
 use shared::records::{damage, maybe_damaged, record, rooms, OUTSIDE};
@@ -623,6 +624,48 @@ fn a_parabola_becomes_its_line() {
     parabola(3, -END, 0, 2 * END);
     parabola(3, END, 0, -2 * END);
     tally.ran(1_248, &[0]);
+}
+
+/// Every entry that tests a record, where this is the first sample outside the range, if one is: three cases.
+fn range_case(tally: &mut Tally, samples: &[i64], first: Option<usize>) {
+    frequency_case(tally, samples, samples.len());
+    figure_case(tally, samples);
+    removal_case(tally, samples, samples.len());
+    let refusal = first.map(outside);
+    assert_eq!(ploegelster::frequency_from_phase(samples, &mut vec![0; samples.len()]).err(), refusal, "samples {}", shown(samples));
+    assert_eq!(ploegelster::drift_figure(samples).err(), refusal, "samples {}", shown(samples));
+    // Of a sound record a result may still leave the range.
+    if first.is_some() {
+        assert_eq!(ploegelster::remove_drift(samples, &mut vec![0; samples.len()]).err(), refusal, "samples {}", shown(samples));
+    }
+}
+
+#[test]
+fn samples_that_only_together_look_outside() {
+    let mut tally = Tally::default();
+    ends::all_within(END, |samples| range_case(&mut tally, samples, None));
+    tally.ran(13_500, &[0, 3]);
+}
+
+#[test]
+fn every_value_outside_at_every_index() {
+    let (mut tally, mut random) = (Tally::default(), Random::new(71));
+    ends::one_beyond(&mut random, END, |samples, index| range_case(&mut tally, samples, Some(index)));
+    tally.ran(162_729, &[3]);
+}
+
+#[test]
+fn several_values_outside() {
+    let (mut tally, mut random) = (Tally::default(), Random::new(72));
+    ends::several_beyond(&mut random, END, |samples, index| range_case(&mut tally, samples, Some(index)));
+    tally.ran(14_160, &[3]);
+}
+
+#[test]
+fn long_records_with_values_outside_where_a_block_ends() {
+    let (mut tally, mut random) = (Tally::default(), Random::new(73));
+    ends::long_beyond(&mut random, END, 32_768, |samples, index| range_case(&mut tally, samples, Some(index)));
+    tally.ran(3_156, &[3]);
 }
 
 #[test]
