@@ -114,11 +114,15 @@ def curve(name, places):
 
 
 def labels(ends):
-    """The curves' names beside their last points, moved down where two at one place would meet."""
+    """The curves' names beside their last points, moved down where two at one place would meet; that of the dashed one, which ends first, above it."""
     lowest = {}
     for y, x, name in sorted((y, x, name) for name, (x, y) in ends.items()):
+        drawn = f' fill="{COLOURS[name]}" font-weight="bold" {HALO}'
+        if name == DASHED:
+            yield text(x, y - INSET, name, "middle", drawn)
+            continue
         lowest[x] = max(y, lowest.get(x, 0) + LINE)
-        yield text(x + INSET + 4, lowest[x] + 4, name, more=f' fill="{COLOURS[name]}" font-weight="bold" {HALO}')
+        yield text(x + INSET + 4, lowest[x] + 4, name, more=drawn)
 
 
 def panel(table, left, right, height, title, below, ticks):
@@ -144,7 +148,7 @@ def panel(table, left, right, height, title, below, ticks):
 def picture(page):
     by_length, by_factor = page[BY_LENGTH], page[BY_FACTOR]
     times = [y for table in (by_length, by_factor) for points in series(table).values() for _, y in points]
-    height = Axis([min(times) / 1.5, max(times) * 1.5], BOTTOM, TOP)
+    height = Axis([min(times) / 1.5, max(times) * 3], BOTTOM, TOP)
     lengths = [int(row[0]) for row in by_length[1:]]
     side = (TOP + BOTTOM) / 2
     return "\n".join([
