@@ -34,8 +34,9 @@
  * time variance in square picoseconds. Deviations are whole numbers of 2^-20 picoseconds (Allan: per basic interval): divide by
  * PLG_UNITS_A_PICOSECOND, and the Allan deviation by the basic interval in picoseconds too where the dimensionless figure is wanted.
  *
- * The record file. Three bytes 50 48 52 ("PHR"), the version 1 in two, the kind in one (0 phase, 1 frequency), the count in two, then each value in
- * eight, two's complement. Numbers of more than one byte have their low byte first. Nothing follows.
+ * The record file. Three bytes 50 48 52 ("PHR"), the version in two, the kind in one (0 phase, 1 frequency), the count in two; in version 2 the
+ * starting phase in eight; then each value in eight. A starting phase and a value are two's complement. Numbers of more than one byte have their low
+ * byte first. Nothing follows.
  */
 #ifndef PLOEGELSTER_H
 #define PLOEGELSTER_H
@@ -49,8 +50,8 @@ extern "C" {
 
 /** The version: the first number changes where a program that used the one before must be changed or compiled anew. */
 #define PLG_VERSION_MAJOR 5
-#define PLG_VERSION_MINOR 0
-#define PLG_VERSION_PATCH 1
+#define PLG_VERSION_MINOR 1
+#define PLG_VERSION_PATCH 0
 
 /* ---- limits, ends allowed */
 
@@ -169,8 +170,13 @@ typedef struct { uint64_t number, place; plg_meter meter; } plg_meter_answer;
 #define PLG_KIND_FREQUENCY 1
 typedef struct { uint64_t number, place, kind, count; } plg_read_answer;
 
-/** The length in bytes of the file of so many values. */
+/** A record file of either version: its version, 1 or 2, its kind, its starting phase, which is 0 in version 1, and how many values it holds. */
+typedef struct { uint64_t number, place, version, kind; int64_t start; uint64_t count; } plg_record_answer;
+
+/** The length in bytes of the file of so many values, in version 1. */
 #define PLG_FILE_LENGTH(count) (8 + 8 * (size_t)(count))
+/** The same in version 2. */
+#define PLG_RECORD_LENGTH(count) (16 + 8 * (size_t)(count))
 
 /* ---- the published sums */
 
@@ -211,6 +217,14 @@ plg_deviation_answer plg_time_deviation(plg_wide sum, uint64_t m, uint64_t count
  * Refuses 2 (M above 32,767), 6 (buffer below M+1), 3 (at the first reading whose running phase leaves the sample range).
  */
 plg_count_answer plg_phase_from_frequency(const int64_t *readings, size_t readings_length, int64_t *buffer, size_t buffer_length);
+
+/**
+ * Phases from frequency readings, from a start on: M readings give M+1 phases, of which the first is the start. With a record's first sample as the
+ * start, its differences give the record back.
+ * Refuses 2 (M above 32,767), 6 (buffer below M+1), 3 (start outside the sample range, at place 0), 3 (at the first reading whose running phase leaves
+ * the sample range).
+ */
+plg_count_answer plg_phase_from_start(int64_t start, const int64_t *readings, size_t readings_length, int64_t *buffer, size_t buffer_length);
 
 /**
  * Frequency readings from phases: N samples give N-1 differences.
@@ -294,18 +308,35 @@ plg_sums_answer plg_meter_report(plg_meter meter);
 /* ---- the record file */
 
 /**
- * Reads a file's values into the buffer.
+ * Reads the values of a file of version 1 into the buffer. A file of version 2 is refused 9 at byte 3.
  * Refuses 9 (at the lowest wrong header byte, else at the length where the header is short), 2 (too many values for the kind), 9 (at the shorter of
  * the true and the right length), 6 (buffer below the count), 3 (at the index of the first value outside its range).
  */
 plg_read_answer plg_read_file(const uint8_t *bytes, size_t bytes_length, int64_t *buffer, size_t buffer_length);
 
 /**
- * Writes the file of a kind and its values; the count is the file's length in bytes.
+ * Writes the file, version 1, of a kind and its values; the count is the file's length in bytes.
  * Refuses 9 (any other kind, at place 5), 2 (too many values for the kind), 6 (buffer below the length), 3 (at the index of the first value outside
  * its range).
  */
 plg_count_answer plg_write_file(uint64_t kind, const int64_t *values, size_t values_length, uint8_t *buffer, size_t buffer_length);
+
+/**
+ * Reads the values of a file of either version into the buffer. The starting phase of version 1 is 0. The phases of a frequency record are those of
+ * plg_phase_from_start with the start that is answered here.
+ * Refuses 9 (at the lowest wrong byte of the first eight, else at the length where the header is short, which has 16 bytes in version 2, else at
+ * place 8 where the kind is 0 and the start is not 0), 2 (too many values for the kind), 9 (at the shorter of the true and the right length), 6 (buffer
+ * below the count), 3 (start outside the sample range, at place 0), 3 (at the index of the first value outside its range). A 3 at place 0 may be the
+ * start's or the first value's.
+ */
+plg_record_answer plg_read_record(const uint8_t *bytes, size_t bytes_length, int64_t *buffer, size_t buffer_length);
+
+/**
+ * Writes the file, version 2, of a kind, a starting phase and values; the count is the file's length in bytes.
+ * Refuses 9 (any other kind, at place 5), 9 (kind 0 with a start that is not 0, at place 8), 2 (too many values for the kind), 6 (buffer below the
+ * length), 3 (start outside the sample range, at place 0), 3 (at the index of the first value outside its range).
+ */
+plg_count_answer plg_write_record(uint64_t kind, int64_t start, const int64_t *values, size_t values_length, uint8_t *buffer, size_t buffer_length);
 
 #ifdef __cplusplus
 }

@@ -250,6 +250,25 @@ pub struct ReadAnswer {
     pub count: u64,
 }
 
+/// A record file of either version.
+#[must_use]
+#[repr(C)]
+#[derive(Clone, Copy, Debug, PartialEq, Eq)]
+pub struct RecordAnswer {
+    /// 0, or the refusal's number.
+    pub number: u64,
+    /// Where it was refused.
+    pub place: u64,
+    /// 1 or 2.
+    pub version: u64,
+    /// 0 phase, 1 frequency.
+    pub kind: u64,
+    /// The starting phase; 0 in version 1.
+    pub start: i64,
+    /// How many values.
+    pub count: u64,
+}
+
 extern "C" {
     /// The Allan sum A at factor m, with its count K.
     pub fn plg_allan_sum(samples: *const i64, samples_length: usize, m: u64) -> SumAnswer;
@@ -266,6 +285,8 @@ extern "C" {
 
     /// Phases from frequency readings, written to the buffer.
     pub fn plg_phase_from_frequency(readings: *const i64, readings_length: usize, buffer: *mut i64, buffer_length: usize) -> CountAnswer;
+    /// Phases from frequency readings, from a start on, written to the buffer.
+    pub fn plg_phase_from_start(start: i64, readings: *const i64, readings_length: usize, buffer: *mut i64, buffer_length: usize) -> CountAnswer;
     /// Frequency readings from phases, written to the buffer.
     pub fn plg_frequency_from_phase(samples: *const i64, samples_length: usize, buffer: *mut i64, buffer_length: usize) -> CountAnswer;
     /// The drift figure.
@@ -296,8 +317,12 @@ extern "C" {
     /// Both sums of the samples accepted since the start.
     pub fn plg_meter_report(meter: Meter) -> SumsAnswer;
 
-    /// A file's values, written to the buffer.
+    /// The values of a file of version 1, written to the buffer.
     pub fn plg_read_file(bytes: *const u8, bytes_length: usize, buffer: *mut i64, buffer_length: usize) -> ReadAnswer;
-    /// The file of a kind and its values, written to the buffer.
+    /// The file, version 1, of a kind and its values, written to the buffer.
     pub fn plg_write_file(kind: u64, values: *const i64, values_length: usize, buffer: *mut u8, buffer_length: usize) -> CountAnswer;
+    /// The values of a file of either version, written to the buffer.
+    pub fn plg_read_record(bytes: *const u8, bytes_length: usize, buffer: *mut i64, buffer_length: usize) -> RecordAnswer;
+    /// The file, version 2, of a kind, a starting phase and values, written to the buffer.
+    pub fn plg_write_record(kind: u64, start: i64, values: *const i64, values_length: usize, buffer: *mut u8, buffer_length: usize) -> CountAnswer;
 }

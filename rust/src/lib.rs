@@ -42,10 +42,10 @@ mod refusals;
 mod sums;
 
 pub use boundary::{Meter, Wide};
-pub use file::{file_length, read_file, write_file, Contents, Kind};
+pub use file::{file_length, read_file, read_record, record_length, write_file, write_record, Contents, Kind, Record};
 pub use meter::{meter_report, meter_sample, meter_start};
 pub use plot::{allan_dot, bars, drawn_number, noise_of_record, noise_type, time_dot, Bars, Dot, Noise};
-pub use records::{drift_figure, float_sums, frequency_from_phase, phase_from_frequency, remove_drift, Drift, FloatSums};
+pub use records::{drift_figure, float_sums, frequency_from_phase, phase_from_frequency, phase_from_start, remove_drift, Drift, FloatSums};
 pub use refusals::{refusal_text, Ground, Refusal};
 pub use sums::{allan_deviation, allan_fraction, allan_sum, modified_sum, time_deviation, time_fraction, Fraction, Sum, Sums};
 

@@ -39,6 +39,26 @@ pub fn phase_from_frequency(readings: &[i64], buffer: &mut [i64]) -> Result<usiz
     count_of(unsafe { boundary::plg_phase_from_frequency(readings.as_ptr(), readings.len(), buffer.as_mut_ptr(), buffer.len()) })
 }
 
+/// Phases from frequency readings, from a start on, written to the buffer: M readings give M+1 phases, of which the first is the start. Gives how many
+/// were written. With a record's first sample as the start, its differences give the record back.
+///
+/// ```
+/// use ploegelster::{frequency_from_phase, phase_from_start};
+///
+/// let record = [5, 8, 7, 11];
+/// let (mut readings, mut phases) = ([0; 3], [0; 4]);
+/// frequency_from_phase(&record, &mut readings)?;
+/// phase_from_start(record[0], &readings, &mut phases)?;
+/// assert_eq!((readings, phases), ([3, -1, 4], record));
+/// # Ok::<(), ploegelster::Refusal>(())
+/// ```
+///
+/// Refuses 2 (M above 32,767), 6 (buffer below M+1), 3 (start outside the sample range, at place 0), 3 (at the first reading whose running phase leaves
+/// the sample range).
+pub fn phase_from_start(start: i64, readings: &[i64], buffer: &mut [i64]) -> Result<usize, Refusal> {
+    count_of(unsafe { boundary::plg_phase_from_start(start, readings.as_ptr(), readings.len(), buffer.as_mut_ptr(), buffer.len()) })
+}
+
 /// Frequency readings from phases, written to the buffer: N samples give N-1 differences. Gives how many were written.
 ///
 /// Refuses 2 (N above 32,768), 1 (N = 0), 6 (buffer below N-1), 3 (at the first sample outside its range).
