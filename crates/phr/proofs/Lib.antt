@@ -5,8 +5,10 @@ pub mod RangeCases
 pub mod RangeSearch
 pub mod RangePass
 pub mod HeaderLaws
+pub mod ValueCases
 pub mod ReadCases
 pub mod WriteCases
 pub mod AnswerCases
 pub mod RoundTrip
+pub mod RecordRoundTrip
 pub mod Unique

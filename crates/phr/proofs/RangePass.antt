@@ -14,11 +14,11 @@ use mir.Val.{Fits, toZ}
 use Rattle.laws.specs.Lists.{at, firstFailing}
 use Rattle.laws.proofs.ListLaws.{tabulate-entry, none-fails}
 use Rattle.laws.proofs.Words.{moved-up-within, Reached}
-use Rattle.phr.specs.Bytes.{fromLowFirst, signed, valueAt}
+use Rattle.phr.specs.Bytes.{fromLowFirst, signed, valueAt, valuesFrom}
 use Rattle.phr.specs.File.{valueInRange, AreBytes}
 use Rattle.phr.proofs.RangeCases.{endOf, end-within}
 use Rattle.phr.proofs.SignLaws.{signed-is}
-use Rattle.phr.proofs.ValueLaws.{valuesFrom, values-from-length, bytes-make-below}
+use Rattle.phr.proofs.ValueLaws.{values-from-length, bytes-make-below}
 
 -- ---- a value whose word, moved up by the end of its range, is at most twice the end
 

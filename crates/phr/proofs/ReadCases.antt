@@ -1,4 +1,4 @@
--- The cases of reading's refusal in their order, and what is known of bytes that are not refused.
+-- The cases of reading's refusals in their order, and what is known of bytes that are not refused: by the count, in version 1, and in either version.
 use mathlib.Core.Path.{_≡_, ap, _∙_}
 use mathlib.Core.Bool.{Bool, true, false, cond, not}
 use mathlib.Core.List.{List, [], _∷_}
@@ -7,19 +7,14 @@ use native.Mathlib.Nat.{min-eq-left, min-eq-right}
 use native.Mathlib.Omega.{arith}
 use borrow.Author.Tests.{lt-ltb, le-ltb, ltb-false, eq-eqb, ne-eqb, eqb-true, not-false}
 use lib.Dec.{ltb, eqb}
-use lib.IntN.{pos}
 use lib.ListN.{length}
-use Rattle.laws.specs.Lists.{at, firstFailing}
-use Rattle.laws.proofs.ListLaws.{first-failing-within, none-fails, all-pass}
-use Rattle.record.specs.Refusals.{none, refused, refusedIf, _then_}
+use Rattle.record.specs.Refusals.{none, refused, refusedIf, _then_, inRange}
 use Rattle.record.proofs.RefusalLaws.{first-refuses-nothing, rest-refuses-nothing, test-fails}
-use Rattle.phr.specs.File.{mostValues, valueInRange}
-use Rattle.phr.specs.Reading.{headerTests, soundUpTo, kindOf, countOf, valuesOf, readRefusal}
-use Rattle.phr.proofs.ValueLaws.{valuesFrom, values-from-length}
-
--- the first value outside its range; the count where there is none
-abbrev pub firstOutside : List ℕ → ℕ
-firstOutside bytes = firstFailing (valueInRange (kindOf bytes)) (valuesOf bytes)
+use Rattle.phr.specs.Bytes.{valuesFrom}
+use Rattle.phr.specs.File.{mostValues, startFits, valuesRefusal}
+use Rattle.phr.specs.Reading.{soundUpTo, kindOf, countOf, countRefusal, headerTests, valuesOf, readRefusal, eitherTests, versionOf, headLength, startOf, recordValues, headerRefusal, readRecordRefusal}
+use Rattle.phr.proofs.ValueCases.{AllInRange, in-range-none, unrefused-in-range}
+use Rattle.phr.proofs.ValueLaws.{values-from-length}
 
 -- ---- bounds
 
@@ -43,107 +38,166 @@ most-values-bounded kind = by-kind (eqb kind 0)
     by-kind true = omega arith
     by-kind false = omega arith
 
--- what the code finds of its kind and count is what is found of the bytes
-pub outside-is : (bytes : List ℕ) {kind count first : ℕ} → kind ≡ kindOf bytes → count ≡ countOf bytes → first ≡ firstFailing (valueInRange kind) (valuesFrom 8 count bytes) →
-    first ≡ firstOutside bytes
-unfolding valuesOf
-outside-is bytes k n e = e ∙ rw (k, n)
+pub head-length-bounded : (bytes : List ℕ) → (8 ≤ headLength bytes) × (headLength bytes ≤ 16)
+unfolding headLength
+head-length-bounded bytes = by-version (eqb (versionOf bytes) 2)
+  where
+    by-version : (second : Bool) → (8 ≤ cond second 16 8) × (cond second 16 8 ≤ 16)
+    by-version true = omega arith
+    by-version false = omega arith
 
--- ---- the cases
+pub values-of-length : (bytes : List ℕ) → length (valuesOf bytes) ≡ countOf bytes
+unfolding valuesOf
+values-of-length bytes = values-from-length 8 (countOf bytes) bytes
+
+pub record-values-length : (bytes : List ℕ) → length (recordValues bytes) ≡ countOf bytes
+unfolding recordValues
+record-values-length bytes = values-from-length (headLength bytes) (countOf bytes) bytes
+
+-- ---- 2, 9, 6: the count, after a header of so many bytes
+
+pub record Counted (head : ℕ) (bytes : List ℕ) (room : ℕ) : Type 0 where
+  pub few : countOf bytes ≤ mostValues (kindOf bytes)
+  pub whole : length bytes ≡ head + 8 * countOf bytes
+  pub enough : countOf bytes ≤ room
+
+module _ (head : ℕ) (bytes : List ℕ) (room : ℕ) where
+  pub too-many-values : mostValues (kindOf bytes) < countOf bytes → countRefusal head bytes room ≡ refused 2 0
+  unfolding countRefusal
+  too-many-values h = simp (lt-ltb (mostValues (kindOf bytes)) (countOf bytes) h)
+
+  module _ (few : countOf bytes ≤ mostValues (kindOf bytes)) where
+    wrong-length : (length bytes ≡ head + 8 * countOf bytes → ⊥) → countRefusal head bytes room ≡ refused 9 (min (length bytes) (head + 8 * countOf bytes))
+    unfolding countRefusal
+    wrong-length h = simp (le-ltb (mostValues (kindOf bytes)) (countOf bytes) few, ne-eqb (length bytes) (head + 8 * countOf bytes) h)
+
+    pub file-too-short : length bytes < head + 8 * countOf bytes → countRefusal head bytes room ≡ refused 9 (length bytes)
+    file-too-short h = wrong-length (λ e. omega arith) ∙ ap (refused 9) (min-eq-left (omega arith))
+
+    pub file-too-long : head + 8 * countOf bytes < length bytes → countRefusal head bytes room ≡ refused 9 (head + 8 * countOf bytes)
+    file-too-long h = wrong-length (λ e. omega arith) ∙ ap (refused 9) (min-eq-right (omega arith))
+
+    module _ (whole : length bytes ≡ head + 8 * countOf bytes) where
+      pub no-room-for-values : room < countOf bytes → countRefusal head bytes room ≡ refused 6 0
+      unfolding countRefusal
+      no-room-for-values h =
+          simp (le-ltb (mostValues (kindOf bytes)) (countOf bytes) few, eq-eqb (length bytes) (head + 8 * countOf bytes) whole, lt-ltb room (countOf bytes) h)
+
+      pub room-for-values : countOf bytes ≤ room → countRefusal head bytes room ≡ none
+      unfolding countRefusal
+      room-for-values h =
+          simp (le-ltb (mostValues (kindOf bytes)) (countOf bytes) few, eq-eqb (length bytes) (head + 8 * countOf bytes) whole, le-ltb room (countOf bytes) h)
+
+  pub counted-none : Counted head bytes room → countRefusal head bytes room ≡ none
+  counted-none c = room-for-values (c .few) (c .whole) (c .enough)
+
+  pub unrefused-counted : countRefusal head bytes room .number ≡ 0 → Counted head bytes room
+  unfolding countRefusal
+  unrefused-counted e =
+      let right = eqb (length bytes) (head + 8 * countOf bytes) in
+      let many = refusedIf (ltb (mostValues (kindOf bytes)) (countOf bytes)) 2 0 in
+      let uneven = refusedIf (not right) 9 (min (length bytes) (head + 8 * countOf bytes)) in
+      let cramped = refusedIf (ltb room (countOf bytes)) 6 0 in
+      let after-many = rest-refuses-nothing many (uneven then cramped) e in record {
+        few = ltb-false (mostValues (kindOf bytes)) (countOf bytes) (test-fails _ 2 0 (omega arith) (first-refuses-nothing many (uneven then cramped) e));
+        whole = eqb-true (length bytes) (head + 8 * countOf bytes) (not-false right (test-fails _ 9 _ (omega arith) (first-refuses-nothing uneven cramped after-many)));
+        enough = ltb-false room (countOf bytes) (test-fails _ 6 0 (omega arith) (rest-refuses-nothing uneven cramped after-many));
+      }
+
+-- ---- version 1
+
+pub record Readable (bytes : List ℕ) (room : ℕ) : Type 0 where
+  pub sound : 8 ≤ soundUpTo headerTests bytes
+  pub counted : Counted 8 bytes room
+  pub in-range : AllInRange (kindOf bytes) (valuesOf bytes)
 
 module _ (bytes : List ℕ) (room : ℕ) where
   pub header-wrong : soundUpTo headerTests bytes < 8 → readRefusal bytes room ≡ refused 9 (soundUpTo headerTests bytes)
   unfolding readRefusal
   header-wrong h = simp (lt-ltb (soundUpTo headerTests bytes) 8 h)
 
-  module _ (sound : 8 ≤ soundUpTo headerTests bytes) where
-    pub too-many-values : mostValues (kindOf bytes) < countOf bytes → readRefusal bytes room ≡ refused 2 0
-    unfolding readRefusal
-    too-many-values h = simp (le-ltb (soundUpTo headerTests bytes) 8 sound, lt-ltb (mostValues (kindOf bytes)) (countOf bytes) h)
+  pub header-sound : 8 ≤ soundUpTo headerTests bytes → readRefusal bytes room ≡ (countRefusal 8 bytes room then valuesRefusal (kindOf bytes) (valuesOf bytes))
+  unfolding readRefusal
+  header-sound h = simp (le-ltb (soundUpTo headerTests bytes) 8 h)
 
-    module _ (few : countOf bytes ≤ mostValues (kindOf bytes)) where
-      wrong-length : (length bytes ≡ 8 + 8 * countOf bytes → ⊥) → readRefusal bytes room ≡ refused 9 (min (length bytes) (8 + 8 * countOf bytes))
-      unfolding readRefusal
-      wrong-length h =
-          simp (le-ltb (soundUpTo headerTests bytes) 8 sound, le-ltb (mostValues (kindOf bytes)) (countOf bytes) few, ne-eqb (length bytes) (8 + 8 * countOf bytes) h)
-
-      pub file-too-short : length bytes < 8 + 8 * countOf bytes → readRefusal bytes room ≡ refused 9 (length bytes)
-      file-too-short h = wrong-length (λ e. omega arith) ∙ ap (refused 9) (min-eq-left (omega arith))
-
-      pub file-too-long : 8 + 8 * countOf bytes < length bytes → readRefusal bytes room ≡ refused 9 (8 + 8 * countOf bytes)
-      file-too-long h = wrong-length (λ e. omega arith) ∙ ap (refused 9) (min-eq-right (omega arith))
-
-      module _ (whole : length bytes ≡ 8 + 8 * countOf bytes) where
-        pub no-room-for-values : room < countOf bytes → readRefusal bytes room ≡ refused 6 0
-        unfolding readRefusal
-        no-room-for-values h =
-            simp (
-              le-ltb (soundUpTo headerTests bytes) 8 sound,
-              le-ltb (mostValues (kindOf bytes)) (countOf bytes) few,
-              eq-eqb (length bytes) (8 + 8 * countOf bytes) whole,
-              lt-ltb room (countOf bytes) h,
-            )
-
-        module _ (enough : countOf bytes ≤ room) where
-          pub value-outside : firstOutside bytes < countOf bytes → readRefusal bytes room ≡ refused 3 (firstOutside bytes)
-          unfolding readRefusal
-          value-outside h =
-              simp (
-                le-ltb (soundUpTo headerTests bytes) 8 sound,
-                le-ltb (mostValues (kindOf bytes)) (countOf bytes) few,
-                eq-eqb (length bytes) (8 + 8 * countOf bytes) whole,
-                le-ltb room (countOf bytes) enough,
-                lt-ltb (firstOutside bytes) (countOf bytes) h,
-              )
-
-          pub nothing-wrong : countOf bytes ≤ firstOutside bytes → readRefusal bytes room ≡ none
-          unfolding readRefusal
-          nothing-wrong h =
-              simp (
-                le-ltb (soundUpTo headerTests bytes) 8 sound,
-                le-ltb (mostValues (kindOf bytes)) (countOf bytes) few,
-                eq-eqb (length bytes) (8 + 8 * countOf bytes) whole,
-                le-ltb room (countOf bytes) enough,
-                le-ltb (firstOutside bytes) (countOf bytes) h,
-              )
-
--- ---- bytes that are not refused
-
-pub record Readable (bytes : List ℕ) (room : ℕ) : Type 0 where
-  pub sound : 8 ≤ soundUpTo headerTests bytes
-  pub few : countOf bytes ≤ mostValues (kindOf bytes)
-  pub whole : length bytes ≡ 8 + 8 * countOf bytes
-  pub enough : countOf bytes ≤ room
-  pub in-range : (i : ℕ) → i < countOf bytes → valueInRange (kindOf bytes) (at (valuesOf bytes) i) ≡ true
-
-pub values-of-length : (bytes : List ℕ) → length (valuesOf bytes) ≡ countOf bytes
-unfolding valuesOf
-values-of-length bytes = values-from-length 8 (countOf bytes) bytes
-
-module _ (bytes : List ℕ) (room : ℕ) where
   pub readable-none : Readable bytes room → readRefusal bytes room ≡ none
-  readable-none r =
-      let all = none-fails (valueInRange (kindOf bytes)) (pos 0) (valuesOf bytes) (λ i h. r .in-range i (omega (arith, values-of-length bytes))) in
-      nothing-wrong bytes room (r .sound) (r .few) (r .whole) (r .enough) (omega (arith, all, values-of-length bytes))
+  readable-none r = header-sound (r .sound) ∙ rw (counted-none 8 bytes room (r .counted)) (in-range-none (kindOf bytes) (valuesOf bytes) (r .in-range))
 
   pub unrefused-readable : readRefusal bytes room .number ≡ 0 → Readable bytes room
   unfolding readRefusal
   unrefused-readable e =
-      let first = firstFailing (valueInRange (kindOf bytes)) (valuesOf bytes) in
       let header = refusedIf (ltb (soundUpTo headerTests bytes) 8) 9 (soundUpTo headerTests bytes) in
-      let right = eqb (length bytes) (8 + 8 * countOf bytes) in
-      let many = refusedIf (ltb (mostValues (kindOf bytes)) (countOf bytes)) 2 0 in
-      let uneven = refusedIf (not right) 9 (min (length bytes) (8 + 8 * countOf bytes)) in
-      let cramped = refusedIf (ltb room (countOf bytes)) 6 0 in
-      let outside = refusedIf (ltb first (countOf bytes)) 3 first in
-      let after-header = rest-refuses-nothing header (many then uneven then cramped then outside) e in
-      let after-many = rest-refuses-nothing many (uneven then cramped then outside) after-header in
-      let after-length = rest-refuses-nothing uneven (cramped then outside) after-many in
-      let end : countOf bytes ≤ first = ltb-false first (countOf bytes) (test-fails _ 3 first (omega arith) (rest-refuses-nothing cramped outside after-length)) in
-      let all = all-pass (valueInRange (kindOf bytes)) (pos 0) (valuesOf bytes) (omega (arith, values-of-length bytes, first-failing-within (valueInRange (kindOf bytes)) (valuesOf bytes))) in record {
-        sound = ltb-false (soundUpTo headerTests bytes) 8 (test-fails _ 9 _ (omega arith) (first-refuses-nothing header (many then uneven then cramped then outside) e));
-        few = ltb-false (mostValues (kindOf bytes)) (countOf bytes) (test-fails _ 2 0 (omega arith) (first-refuses-nothing many (uneven then cramped then outside) after-header));
-        whole = eqb-true (length bytes) (8 + 8 * countOf bytes) (not-false right (test-fails _ 9 _ (omega arith) (first-refuses-nothing uneven (cramped then outside) after-many)));
-        enough = ltb-false room (countOf bytes) (test-fails _ 6 0 (omega arith) (first-refuses-nothing cramped outside after-length));
-        in-range = λ i h. all i (omega (arith, values-of-length bytes));
+      let count = countRefusal 8 bytes room in
+      let values = valuesRefusal (kindOf bytes) (valuesOf bytes) in
+      let after-header = rest-refuses-nothing header (count then values) e in record {
+        sound = ltb-false (soundUpTo headerTests bytes) 8 (test-fails _ 9 _ (omega arith) (first-refuses-nothing header (count then values) e));
+        counted = unrefused-counted 8 bytes room (first-refuses-nothing count values after-header);
+        in-range = unrefused-in-range (kindOf bytes) (valuesOf bytes) (rest-refuses-nothing count values after-header);
       }
+
+-- ---- either version
+
+pub record SoundHeader (bytes : List ℕ) : Type 0 where
+  pub sound : 8 ≤ soundUpTo eitherTests bytes
+  pub present : headLength bytes ≤ length bytes
+  pub start-fits : startFits (kindOf bytes) (startOf bytes) ≡ true
+
+pub record ReadableRecord (bytes : List ℕ) (room : ℕ) : Type 0 where
+  pub header : SoundHeader bytes
+  pub counted : Counted (headLength bytes) bytes room
+  pub start-in-range : inRange (startOf bytes) ≡ true
+  pub in-range : AllInRange (kindOf bytes) (recordValues bytes)
+
+module _ (bytes : List ℕ) where
+  pub first-eight-wrong : soundUpTo eitherTests bytes < 8 → headerRefusal bytes ≡ refused 9 (soundUpTo eitherTests bytes)
+  unfolding headerRefusal
+  first-eight-wrong h = simp (lt-ltb (soundUpTo eitherTests bytes) 8 h)
+
+  module _ (sound : 8 ≤ soundUpTo eitherTests bytes) where
+    pub header-short : length bytes < headLength bytes → headerRefusal bytes ≡ refused 9 (length bytes)
+    unfolding headerRefusal
+    header-short h = simp (le-ltb (soundUpTo eitherTests bytes) 8 sound, lt-ltb (length bytes) (headLength bytes) h)
+
+    module _ (present : headLength bytes ≤ length bytes) where
+      pub start-unfit : startFits (kindOf bytes) (startOf bytes) ≡ false → headerRefusal bytes ≡ refused 9 8
+      unfolding headerRefusal
+      start-unfit e = simp (le-ltb (soundUpTo eitherTests bytes) 8 sound, le-ltb (length bytes) (headLength bytes) present, e)
+
+      pub start-fit : startFits (kindOf bytes) (startOf bytes) ≡ true → headerRefusal bytes ≡ none
+      unfolding headerRefusal
+      start-fit e = simp (le-ltb (soundUpTo eitherTests bytes) 8 sound, le-ltb (length bytes) (headLength bytes) present, e)
+
+  pub unrefused-header : headerRefusal bytes .number ≡ 0 → SoundHeader bytes
+  unfolding headerRefusal
+  unrefused-header e =
+      let first = refusedIf (ltb (soundUpTo eitherTests bytes) 8) 9 (soundUpTo eitherTests bytes) in
+      let short = refusedIf (ltb (length bytes) (headLength bytes)) 9 (length bytes) in
+      let fits = startFits (kindOf bytes) (startOf bytes) in
+      let start = refusedIf (not fits) 9 8 in
+      let after-first = rest-refuses-nothing first (short then start) e in record {
+        sound = ltb-false (soundUpTo eitherTests bytes) 8 (test-fails _ 9 _ (omega arith) (first-refuses-nothing first (short then start) e));
+        present = ltb-false (length bytes) (headLength bytes) (test-fails _ 9 _ (omega arith) (first-refuses-nothing short start after-first));
+        start-fits = not-false fits (test-fails _ 9 8 (omega arith) (rest-refuses-nothing short start after-first));
+      }
+
+  module _ (room : ℕ) where
+    pub readable-record-none : ReadableRecord bytes room → readRecordRefusal bytes room ≡ none
+    unfolding readRecordRefusal
+    readable-record-none r =
+        let header = r .header in
+        rw (start-fit (header .sound) (header .present) (header .start-fits), counted-none (headLength bytes) bytes room (r .counted), r .start-in-range)
+        (in-range-none (kindOf bytes) (recordValues bytes) (r .in-range))
+
+    pub unrefused-record : readRecordRefusal bytes room .number ≡ 0 → ReadableRecord bytes room
+    unfolding readRecordRefusal
+    unrefused-record e =
+        let count = countRefusal (headLength bytes) bytes room in
+        let start = refusedIf (not (inRange (startOf bytes))) 3 0 in
+        let values = valuesRefusal (kindOf bytes) (recordValues bytes) in
+        let after-header = rest-refuses-nothing (headerRefusal bytes) (count then start then values) e in
+        let after-count = rest-refuses-nothing count (start then values) after-header in record {
+          header = unrefused-header (first-refuses-nothing (headerRefusal bytes) (count then start then values) e);
+          counted = unrefused-counted (headLength bytes) bytes room (first-refuses-nothing count (start then values) after-header);
+          start-in-range = not-false (inRange (startOf bytes)) (test-fails _ 3 0 (omega arith) (first-refuses-nothing start values after-count));
+          in-range = unrefused-in-range (kindOf bytes) (recordValues bytes) (rest-refuses-nothing start values after-count);
+        }

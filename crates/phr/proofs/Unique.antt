@@ -5,9 +5,19 @@ use Rattle.phr.proofs.read_file.Reads as read-file
 use Rattle.phr.proofs.read_file.Kinds as read-file-kinds
 use Rattle.phr.proofs.write_file.Reads as write-file
 use Rattle.phr.proofs.write_file.Kinds as write-file-kinds
+use Rattle.phr.proofs.read_record.Reads as read-record
+use Rattle.phr.proofs.read_record.Kinds as read-record-kinds
+use Rattle.phr.proofs.write_record.Reads as write-record
+use Rattle.phr.proofs.write_record.Kinds as write-record-kinds
 
 pub read-file-single : Single 2 read-file-kinds.ps read-file-kinds.r read-file.Post
 read-file-single κs args z z′ w w′ first second = (first .0 ∙ sym (second .0), λ i. (tt, ((first .1 ∙ sym (second .1)) i, tt)))
 
 pub write-file-single : Single 2 write-file-kinds.ps write-file-kinds.r write-file.Post
 write-file-single κs args z z′ w w′ first second = (first .0 ∙ sym (second .0), λ i. (tt, (tt, ((first .1 ∙ sym (second .1)) i, tt))))
+
+pub read-record-single : Single 2 read-record-kinds.ps read-record-kinds.r read-record.Post
+read-record-single κs args z z′ w w′ first second = (first .0 ∙ sym (second .0), λ i. (tt, ((first .1 ∙ sym (second .1)) i, tt)))
+
+pub write-record-single : Single 2 write-record-kinds.ps write-record-kinds.r write-record.Post
+write-record-single κs args z z′ w w′ first second = (first .0 ∙ sym (second .0), λ i. (tt, (tt, (tt, ((first .1 ∙ sym (second .1)) i, tt)))))

@@ -13,7 +13,7 @@ use mir.Syntax.{w64}
 use mir.Val.{SFits, toZ, ofZ}
 use Rattle.laws.specs.Lists.{at, tabulate}
 use Rattle.laws.proofs.ListLaws.{tabulate-length, tabulate-entry, tabulate-equal}
-use Rattle.phr.specs.Bytes.{lowFirst, fromLowFirst, twosComplement, valuesBytes, valueAt}
+use Rattle.phr.specs.Bytes.{lowFirst, fromLowFirst, twosComplement, valuesBytes, valueAt, valuesFrom}
 use Rattle.phr.specs.File.{AreBytes}
 use Rattle.phr.proofs.ByteLaws.{writtenFrom, written-from-none, written-from-next, stores-from, bytes-taken, bytes-dropped, bytes-joined, low-first-length, low-first-bytes, low-first-back, from-low-first-below, from-low-first-back, from-low-first-append}
 use Rattle.phr.proofs.SignLaws.{twos-complement-below, twos-complement-back, signed-back, loaded-value}
@@ -114,11 +114,7 @@ unfolding valuesBytes
 values-bytes-append [] zs = refl
 values-bytes-append (y ∷ ys) zs = rw (values-bytes-append ys zs, append-assoc)
 
--- so many values from a place on
-abbrev pub valuesFrom : ℕ → ℕ → List ℕ → List ℤ
-valuesFrom place count bytes = tabulate count (λ i. valueAt bytes (place + 8 * i))
-
--- the first apart
+-- the first of them apart
 values-from-first : (place count : ℕ) (bytes : List ℕ) → valuesFrom place (suc count) bytes ≡ valueAt bytes place ∷ valuesFrom (place + 8) count bytes
 unfolding tabulate
 values-from-first place count bytes =

@@ -1,10 +1,11 @@
--- Numbers as bytes, low byte first, and the eight bytes of a value.
+-- Numbers as bytes, low byte first, and the eight bytes of a value, alone and one after the other.
 use mathlib.Core.Bool.{cond}
 use mathlib.Core.List.{List, [], _∷_, _++_}
 use Prim.Native.Nat.{ℕ, zero, suc, _+_, _*_, _-_, _/_, _%_, _^_}
 use lib.Dec.{ltb}
 use lib.IntN.{ℤ, pos, negsuc}
 use lib.ListN.{take, drop}
+use Rattle.laws.specs.Lists.{tabulate}
 
 -- a number as so many bytes, low byte first
 unfoldable pub lowFirst : ℕ → ℕ → List ℕ
@@ -33,3 +34,7 @@ valuesBytes (z ∷ zs) = lowFirst 8 (twosComplement z) ++ valuesBytes zs
 -- the value whose 8 bytes start at a place
 unfoldable pub valueAt : List ℕ → ℕ → ℤ
 valueAt bytes place = signed (fromLowFirst (take 8 (drop place bytes)))
+
+-- so many values, the first of which starts at a place: a file's, where the place is the length of its header
+abbrev pub valuesFrom : ℕ → ℕ → List ℕ → List ℤ
+valuesFrom place count bytes = tabulate count (λ i. valueAt bytes (place + 8 * i))

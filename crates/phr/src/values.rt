@@ -6,30 +6,30 @@ ghost use mathlib.Core.List.{_++_};
 ghost use Prim.Native.Nat.{_+_, _*_, _^_, _≤_, _<_};
 ghost use lib.Dec.{eqb};
 ghost use lib.ListN.{length, take, drop};
-ghost use Rattle.laws.specs.Lists.{tabulate, written, firstFailing};
-ghost use Rattle.phr.specs.Bytes.{lowFirst, fromLowFirst, twosComplement, valuesBytes, valueAt};
+ghost use Rattle.laws.specs.Lists.{written, firstFailing};
+ghost use Rattle.phr.specs.Bytes.{lowFirst, fromLowFirst, twosComplement, valuesBytes, valueAt, valuesFrom};
 ghost use Rattle.phr.specs.Bytes.{signed as signedOf};
 ghost use Rattle.phr.specs.File.{valueInRange};
 
-// The first of count values outside the range of their kind, or count.
-pub(crate) fn first_outside(bytes: &[u8], kind: u64, count: usize) -> usize
-    requires { ⌜ 8 + 8 * count ≤ length (now bytes) ⌝ }
-    ensures { λ r. ⌜ r ≡ firstFailing (valueInRange kind) (tabulate count (λ i. valueAt (now (bytes .entry)) (8 + 8 * i))) ⌝ }
+// The first of count values from a place on that is outside the range of their kind, or count.
+pub(crate) fn first_outside(bytes: &[u8], place: usize, kind: u64, count: usize) -> usize
+    requires { ⌜ place + 8 * count ≤ length (now bytes) ⌝ }
+    ensures { λ r. ⌜ r ≡ firstFailing (valueInRange kind) (valuesFrom place count (now (bytes .entry))) ⌝ }
 {
-    if surely_in_range(bytes, kind, count) {
+    if surely_in_range(bytes, place, kind, count) {
         return count;
     }
-    search_outside(bytes, kind, count)
+    search_outside(bytes, place, kind, count)
 }
 
-// The values at the front of the buffer.
-pub(crate) fn read_values(bytes: &[u8], count: usize, buffer: &mut [i64])
-    requires { ⌜ (8 + 8 * count ≤ length (now bytes)) × (count ≤ length (now buffer)) ⌝ }
-    ensures { λ r. ⌜ now (buffer .exit) ≡ written (tabulate count (λ i. valueAt (now (bytes .entry)) (8 + 8 * i))) (now (buffer .entry)) ⌝ }
+// The values from a place on, at the front of the buffer.
+pub(crate) fn read_values(bytes: &[u8], place: usize, count: usize, buffer: &mut [i64])
+    requires { ⌜ (place + 8 * count ≤ length (now bytes)) × (count ≤ length (now buffer)) ⌝ }
+    ensures { λ r. ⌜ now (buffer .exit) ≡ written (valuesFrom place count (now (bytes .entry))) (now (buffer .entry)) ⌝ }
 {
     let mut i: usize = 0;
     while i < count {
-        buffer[i] = value_at(bytes, 8 + 8 * i);
+        buffer[i] = value_at(bytes, place + 8 * i);
         i += 1;
     }
 }
@@ -49,29 +49,29 @@ pub(crate) fn first_unfit(kind: u64, values: &[i64]) -> usize
     i
 }
 
-// The values' bytes after the eight of the header.
-pub(crate) fn write_values(values: &[i64], buffer: &mut [u8])
-    requires { ⌜ 8 + 8 * length (now values) ≤ length (now buffer) ⌝ }
-    ensures { λ r. ⌜ now (buffer .exit) ≡ take 8 (now (buffer .entry)) ++ written (valuesBytes (now (values .entry))) (drop 8 (now (buffer .entry))) ⌝ }
+// The values' bytes from a place on.
+pub(crate) fn write_values(values: &[i64], place: usize, buffer: &mut [u8])
+    requires { ⌜ place + 8 * length (now values) ≤ length (now buffer) ⌝ }
+    ensures { λ r. ⌜ now (buffer .exit) ≡ take place (now (buffer .entry)) ++ written (valuesBytes (now (values .entry))) (drop place (now (buffer .entry))) ⌝ }
 {
     let mut i: usize = 0;
     while i < values.len() {
-        write_value(buffer, 8 + 8 * i, values[i]);
+        write_value(buffer, place + 8 * i, values[i]);
         i += 1;
     }
 }
 
-// Whether count values surely lie in the range of their kind.
+// Whether count values from a place on surely lie in the range of their kind.
 // The pass has no way out, so that a machine works several values at a time. A value at the upper end may leave it unsure, and the search decides.
-fn surely_in_range(bytes: &[u8], kind: u64, count: usize) -> bool
-    requires { ⌜ 8 + 8 * count ≤ length (now bytes) ⌝ }
-    ensures { λ r. ⌜ (r ≡ true → firstFailing (valueInRange kind) (tabulate count (λ i. valueAt (now (bytes .entry)) (8 + 8 * i))) ≡ count) ⌝ }
+fn surely_in_range(bytes: &[u8], place: usize, kind: u64, count: usize) -> bool
+    requires { ⌜ place + 8 * count ≤ length (now bytes) ⌝ }
+    ensures { λ r. ⌜ (r ≡ true → firstFailing (valueInRange kind) (valuesFrom place count (now (bytes .entry))) ≡ count) ⌝ }
 {
     let end = end_of(kind);
     let mut reached: u64 = 0;
     let mut i: usize = 0;
     while i < count {
-        reached = reached | std::num::wrapping_add_u64(word_at(bytes, 8 + 8 * i), end);
+        reached = reached | std::num::wrapping_add_u64(word_at(bytes, place + 8 * i), end);
         i += 1;
     }
     reached <= 2 * end
@@ -108,14 +108,14 @@ fn four_bytes(bytes: &[u8], place: usize) -> u64
         + 16777216 * word(bytes[place + 3])
 }
 
-// The first of count values outside the range of their kind, or count, looked for one by one.
-fn search_outside(bytes: &[u8], kind: u64, count: usize) -> usize
-    requires { ⌜ 8 + 8 * count ≤ length (now bytes) ⌝ }
-    ensures { λ r. ⌜ r ≡ firstFailing (valueInRange kind) (tabulate count (λ i. valueAt (now (bytes .entry)) (8 + 8 * i))) ⌝ }
+// The first of count values from a place on that is outside the range of their kind, or count, looked for one by one.
+fn search_outside(bytes: &[u8], place: usize, kind: u64, count: usize) -> usize
+    requires { ⌜ place + 8 * count ≤ length (now bytes) ⌝ }
+    ensures { λ r. ⌜ r ≡ firstFailing (valueInRange kind) (valuesFrom place count (now (bytes .entry))) ⌝ }
 {
     let mut i: usize = 0;
     while i < count {
-        if value_in_range(kind, value_at(bytes, 8 + 8 * i)) {
+        if value_in_range(kind, value_at(bytes, place + 8 * i)) {
             i += 1;
         } else {
             return i;
@@ -138,7 +138,7 @@ fn value_in_range(kind: u64, z: i64) -> bool
 }
 
 // The value whose eight bytes start at a place.
-fn value_at(bytes: &[u8], place: usize) -> i64
+pub(crate) fn value_at(bytes: &[u8], place: usize) -> i64
     requires { ⌜ place + 8 ≤ length (now bytes) ⌝ }
     ensures { λ r. ⌜ r ≡ valueAt (now (bytes .entry)) place ⌝ }
 {
@@ -166,7 +166,7 @@ fn unsigned(z: i64) -> u64
 }
 
 // A value's eight bytes from a place on.
-fn write_value(buffer: &mut [u8], place: usize, z: i64)
+pub(crate) fn write_value(buffer: &mut [u8], place: usize, z: i64)
     requires { ⌜ place + 8 ≤ length (now buffer) ⌝ }
     ensures { λ r. ⌜ now (buffer .exit) ≡ take place (now (buffer .entry)) ++ written (lowFirst 8 (twosComplement z)) (drop place (now (buffer .entry))) ⌝ }
 {

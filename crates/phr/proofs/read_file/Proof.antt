@@ -1,6 +1,7 @@
 -- `phr::read_file` meets its contract: it reads only what is not refused.
 use borrow.Author.Needs.{needs}
 use mathlib.Core.Path.{refl, sym, ap, _∙_}
+use Prim.Native.Nat.{_≤_}
 use native.Mathlib.Omega.{arith}
 use lib.ListN.{length}
 use Rattle.record.specs.declared.Refusal.{Refusal}
@@ -14,6 +15,9 @@ use Rattle.phr.proofs.read_file.Tie as tie
 readable-there : (c : tie.Else1) → let s = c .before .before .before in Readable (s .args .bytes .now) (length (s .args .buffer .now))
 readable-there c = unrefused-readable _ _ (sym (ap (λ (r : Refusal). r .number) (c .before .read-refusal .ensures)) ∙ c .if1 .left)
 
+eight-there : (c : tie.Else1) → 8 ≤ length (c .before .before .before .args .bytes .now)
+eight-there c = omega (arith, readable-there c .sound, sound-within headerTests (c .before .before .before .args .bytes .now))
+
 read-refusal-requires : tie.Need-read-refusal-requires
 read-refusal-requires c κs = search needs
 
@@ -23,20 +27,15 @@ returns c =
     read-refused _ _ _ (r .result .number) (r .result .place) (omega (arith, c .if1 .taken)) (sym (r .ensures)) refl
 
 count-of-requires : tie.Need-count-of-requires
-count-of-requires c κs =
-    let s = c .before .before .before in
-    omega (arith, readable-there c .sound, sound-within headerTests (s .args .bytes .now))
+count-of-requires c κs = eight-there c
 
 read-values-requires : tie.Need-read-values-requires
 read-values-requires c κs =
-    let r = readable-there (c .before .before) in
+    let r = readable-there (c .before .before) .counted in
     omega (arith, r .whole, r .enough)
 
 kind-of-requires : tie.Need-kind-of-requires
-kind-of-requires c κs =
-    let e = c .before .before .before .before in
-    let s = e .before .before .before in
-    omega (arith, readable-there e .sound, sound-within headerTests (s .args .bytes .now))
+kind-of-requires c κs = eight-there (c .before .before .before .before)
 
 same-length : tie.Need-same-length
 same-length c = search needs

@@ -4,22 +4,23 @@ use mathlib.Core.Path.{_≡_, sym, _∙_}
 use Prim.Native.Nat.{_+_, _-_, _≤_}
 use native.Mathlib.Omega.{arith}
 use lib.ListN.{length, drop}
-use Rattle.phr.specs.Reading.{headerTests, soundUpTo}
-use Rattle.phr.proofs.HeaderLaws.{tests-go-on, wrong-here, bytes-end, tests-end}
+use Rattle.phr.specs.Reading.{testsOf, soundUpTo}
+use Rattle.phr.proofs.HeaderLaws.{testsUpTo, tests-go-on, wrong-here, bytes-end, tests-end}
 use Rattle.phr.proofs.header.sound_up_to.Statement.{statement}
 use Rattle.phr.proofs.header.sound_up_to.Tie as tie
 
 abbrev Inv-loop : tie.InvT-loop
-Inv-loop bytes place₀ place = (place ≤ 8) × (place ≤ length bytes) × (soundUpTo headerTests bytes ≡ place + soundUpTo (drop place headerTests) (drop place bytes))
+Inv-loop bytes newest place₀ place =
+    let tests = testsUpTo newest in (place ≤ 8) × (place ≤ length bytes) × (soundUpTo tests bytes ≡ place + soundUpTo (drop place tests) (drop place bytes))
 
 abbrev μ-loop : tie.MeasureT-loop
-μ-loop bytes place₀ place = 8 - place
+μ-loop bytes newest place₀ place = 8 - place
 
 loop-holds : tie.Need-loop-holds Inv-loop μ-loop
 loop-holds c = omega arith
 
 returns : tie.Need-returns Inv-loop μ-loop
-returns c = let h = c .before .before in sym (bytes-end headerTests _ (h .loop .place) (h .loop .inv .2) (omega arith))
+returns c = let h = c .before .before in sym (bytes-end (testsUpTo (h .before .before .args .newest)) _ (h .loop .place) (h .loop .inv .2) (omega arith))
 
 shared-slice-read-header-byte : tie.Need-shared-slice-read-header-byte Inv-loop μ-loop
 shared-slice-read-header-byte c = omega arith
@@ -34,20 +35,20 @@ loop-less : tie.Need-loop-less Inv-loop μ-loop
 loop-less c = omega arith
 
 loop-again : tie.Need-loop-again Inv-loop μ-loop
-unfolding headerTests
+unfolding testsOf
 loop-again c =
     let h = c .before .before .before .before .before in
-    (omega arith, omega arith, tests-go-on headerTests _ (h .loop .place) (h .loop .inv .2) (omega arith) (omega arith) (sym (c .before .header-byte .ensures) ∙ c .if2 .taken))
+    (omega arith, omega arith, tests-go-on (testsUpTo (h .before .before .args .newest)) _ (h .loop .place) (h .loop .inv .2) (omega arith) (omega arith) (sym (c .before .header-byte .ensures) ∙ c .if2 .taken))
 
 returns-2 : tie.Need-returns-2 Inv-loop μ-loop
-unfolding headerTests
+unfolding testsOf
 returns-2 c =
     let h = c .before .before .before .before .before in
-    sym (wrong-here headerTests _ (h .loop .place) (h .loop .inv .2) (omega arith) (omega arith) (sym (c .before .header-byte .ensures) ∙ c .if2 .left))
+    sym (wrong-here (testsUpTo (h .before .before .args .newest)) _ (h .loop .place) (h .loop .inv .2) (omega arith) (omega arith) (sym (c .before .header-byte .ensures) ∙ c .if2 .left))
 
 returns-3 : tie.Need-returns-3 Inv-loop μ-loop
-unfolding headerTests
-returns-3 c = let h = c .before in sym (tests-end headerTests _ (h .loop .place) (h .loop .inv .2) (omega arith))
+unfolding testsOf
+returns-3 c = let h = c .before in sym (tests-end (testsUpTo (h .before .before .args .newest)) _ (h .loop .place) (h .loop .inv .2) (omega arith))
 
 pub sound-up-to-spec : {M : Type 1} → statement M
 sound-up-to-spec =

@@ -10,10 +10,10 @@ use Rattle.phr.proofs.values.surely_in_range.Statement.{statement}
 use Rattle.phr.proofs.values.surely_in_range.Tie as tie
 
 abbrev Inv-loop : tie.InvT-loop
-Inv-loop bytes kind count end reached₀ i₀ reached i = (i ≤ count) × Reached (movedUp end 8 bytes) i reached
+Inv-loop bytes place kind count end reached₀ i₀ reached i = (i ≤ count) × Reached (movedUp end place bytes) i reached
 
 abbrev μ-loop : tie.MeasureT-loop
-μ-loop bytes kind count end reached₀ i₀ reached i = count - i
+μ-loop bytes place kind count end reached₀ i₀ reached i = count - i
 
 end-of-requires : tie.Need-end-of-requires Inv-loop μ-loop
 end-of-requires c κs = search needs
@@ -43,7 +43,7 @@ loop-again : tie.Need-loop-again Inv-loop μ-loop
 loop-again c =
     let h = c .before .before .before in
     let a = h .before .before .before .args in
-    (omega arith, one-more-reached (movedUp (h .before .end-of .result) 8 (a .bytes .now)) (h .loop .i) (h .loop .reached) (h .loop .inv .1) (omega arith))
+    (omega arith, one-more-reached (movedUp (h .before .end-of .result) (a .place) (a .bytes .now)) (h .loop .i) (h .loop .reached) (h .loop .inv .1) (omega arith))
 
 mul-result : tie.Need-mul-result Inv-loop μ-loop
 mul-result c = omega (arith, end-within (c .before .before .before .before .args .kind))
@@ -53,7 +53,7 @@ returns c t =
     let h = c .before in
     let known = h .before .before in
     let s = known .before in
-    all-in-range (s .args .kind) 8 (s .args .count) (s .args .bytes .now) (λ k. known .shared-slice-known .given k .fits) (s .pre) (h .before .end-of .ensures) (h .loop .i) (h .loop .reached) (c .loop-test .left) (h .loop .inv .1) (leb-true _ _ t)
+    all-in-range (s .args .kind) (s .args .place) (s .args .count) (s .args .bytes .now) (λ k. known .shared-slice-known .given k .fits) (s .pre) (h .before .end-of .ensures) (h .loop .i) (h .loop .reached) (c .loop-test .left) (h .loop .inv .1) (leb-true _ _ t)
 
 pub surely-in-range-spec : {M : Type 1} → statement M
 surely-in-range-spec =

@@ -11,13 +11,13 @@ use Rattle.phr.proofs.values.write_values.Statement.{statement}
 use Rattle.phr.proofs.values.write_values.Tie as tie
 
 abbrev Inv-loop : tie.InvT-loop
-Inv-loop values buffer₀ i₀ buffer i = (i ≤ length values) × (length buffer ≡ length buffer₀) × (buffer ≡ writtenFrom 8 (valuesBytes (take i values)) buffer₀)
+Inv-loop values place buffer₀ i₀ buffer i = (i ≤ length values) × (length buffer ≡ length buffer₀) × (buffer ≡ writtenFrom place (valuesBytes (take i values)) buffer₀)
 
 abbrev μ-loop : tie.MeasureT-loop
-μ-loop values buffer₀ i₀ buffer i = length values - i
+μ-loop values place buffer₀ i₀ buffer i = length values - i
 
 loop-holds : tie.Need-loop-holds Inv-loop μ-loop
-loop-holds c = let s = c .before in (omega arith, refl, values-none-written 8 (s .args .values .now) (s .args .buffer .now) (s .pre))
+loop-holds c = let s = c .before in (omega arith, refl, values-none-written (s .args .place) (s .args .values .now) (s .args .buffer .now) (s .pre))
 
 mul-write-value : tie.Need-mul-write-value Inv-loop μ-loop
 mul-write-value c = omega arith
@@ -45,7 +45,7 @@ loop-again c =
     let w = c .before .before in
     let h = w .before .before .before .before in
     let s = h .before .before in
-    (omega arith, w .write-value .kept .0 ∙ h .loop .inv .1, values-one-more-written 8 (s .args .values .now) (s .args .buffer .now) (s .pre) (h .loop .i) (omega arith) (h .loop .inv .2) (loaded-value _ (w .before .write-value-arg2 .given)) (w .write-value .ensures))
+    (omega arith, w .write-value .kept .0 ∙ h .loop .inv .1, values-one-more-written (s .args .place) (s .args .values .now) (s .args .buffer .now) (s .pre) (h .loop .i) (omega arith) (h .loop .inv .2) (loaded-value _ (w .before .write-value-arg2 .given)) (w .write-value .ensures))
 
 same-length : tie.Need-same-length Inv-loop μ-loop
 same-length c = omega arith
@@ -54,7 +54,7 @@ returns : tie.Need-returns Inv-loop μ-loop
 returns c =
     let h = c .before in
     let a = h .before .before .args in
-    h .loop .inv .2 ∙ values-all-written 8 (a .values .now) (a .buffer .now) (h .before .before .pre) (h .loop .i) (omega arith)
+    h .loop .inv .2 ∙ values-all-written (a .place) (a .values .now) (a .buffer .now) (h .before .before .pre) (h .loop .i) (omega arith)
 
 pub write-values-spec : {M : Type 1} → statement M
 write-values-spec =

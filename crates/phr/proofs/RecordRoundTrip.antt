@@ -1,0 +1,298 @@
+-- Either version: reading gives back what writing wrote, accepts the files of version 1 and of version 2 and nothing else, and reads version 1 as the
+-- reader of version 1 alone does, which refuses version 2 at byte 3.
+use mathlib.Core.Path.{_≡_, refl, sym, ap, ap₂, _∙_}
+use mathlib.Core.Bool.{Bool, true, false, true≢false, cond, _||_}
+use mathlib.Core.List.{List, [], _∷_, _++_, append-assoc, append-nil}
+use mathlib.Core.Logic.{_⊎_, inl, inr}
+use Prim.Native.Nat.{ℕ, _+_, _*_, _^_, _≤_, _<_}
+use native.Mathlib.Omega.{arith}
+use borrow.Author.Tests.{ltb-true, ltb-false, le-leb, leb-true, eq-eqb, ne-eqb, eqb-true, eqb-false}
+use lib.Dec.{ltb, eqb}
+use lib.IntN.{ℤ, pos, negsuc, natAbs}
+use lib.ListN.{length, getD, take, drop, take-append-drop}
+use lib.Seq.{take-add, take-at}
+use mir.Syntax.{w64}
+use mir.Val.{SFits}
+use Rattle.laws.specs.Lists.{at}
+use Rattle.laws.proofs.Parts.{small-fits}
+use Rattle.record.specs.Answers.{bufferLeft}
+use Rattle.record.specs.Refusals.{none, refused, refusedIf, inRange}
+use Rattle.record.specs.declared.Refusal.{Refusal}
+use Rattle.record.proofs.RangeLaws.{sample-bounded, bounded-sample}
+use Rattle.phr.specs.Bytes.{lowFirst, valuesBytes, valueAt, valuesFrom}
+use Rattle.phr.specs.File.{firstEight, header, fileOf, headerFrom, fileFrom, startFits, Proper, IsFile, ProperStart, IsFileFrom, AreBytes}
+use Rattle.phr.specs.Reading.{testsOf, soundUpTo, kindOf, countOf, headerTests, valuesOf, readRefusal, eitherTests, versionOf, headLength, startOf, recordValues, headerRefusal, readRecordRefusal, readRecordAnswer}
+use Rattle.phr.specs.Writing.{writeRecordRefusal}
+use Rattle.phr.proofs.ByteLaws.{bytes-joined}
+use Rattle.phr.proofs.RangeCases.{in-range-fits}
+use Rattle.phr.proofs.ReadCases.{ReadableRecord, readable-record-none, unrefused-record, record-values-length, sound-within, most-values-bounded, header-wrong, first-eight-wrong, start-fit}
+use Rattle.phr.proofs.RoundTrip.{first-eight-bytes, kind-there, count-there, version-there, first-eight-sound, eight-present, passed, kind-passed, eight-there, values-there, accepted-exactly}
+use Rattle.phr.proofs.WriteCases.{unrefused-from}
+use Rattle.phr.proofs.ValueLaws.{valueBytes, value-back, value-bytes-back, value-bytes-are-bytes, values-back, values-bytes-length, values-bytes-are-bytes}
+
+-- ---- version 2, for the reader of version 1
+
+-- whatever follows the mark and the 2, and however much of it there is
+pub second-version-refused : (bytes : List ℕ) (room : ℕ) → 3 < length bytes → getD bytes 0 0 ≡ 0x50 → getD bytes 1 0 ≡ 0x48 → getD bytes 2 0 ≡ 0x52 → getD bytes 3 0 ≡ 2 →
+    readRefusal bytes room ≡ refused 9 3
+unfolding soundUpTo testsOf headerTests
+second-version-refused bytes room long e₀ e₁ e₂ e₃ =
+    let at-three = stops bytes long e₀ e₁ e₂ e₃ in
+    header-wrong bytes room (omega (arith, at-three)) ∙ ap (refused 9) at-three
+  where
+    stops : (bytes : List ℕ) → 3 < length bytes → getD bytes 0 0 ≡ 0x50 → getD bytes 1 0 ≡ 0x48 → getD bytes 2 0 ≡ 0x52 → getD bytes 3 0 ≡ 2 → soundUpTo headerTests bytes ≡ 3
+    stops [] long e₀ e₁ e₂ e₃ = absurd (omega arith)
+    stops (a ∷ []) long e₀ e₁ e₂ e₃ = absurd (omega arith)
+    stops (a ∷ b ∷ []) long e₀ e₁ e₂ e₃ = absurd (omega arith)
+    stops (a ∷ b ∷ c ∷ []) long e₀ e₁ e₂ e₃ = absurd (omega arith)
+    stops (a ∷ b ∷ c ∷ d ∷ rest) long e₀ e₁ e₂ e₃ = rw (e₀, e₁, e₂, e₃)
+
+-- ---- version 1, for the reader of either
+
+pub nought-fits : (kind : ℕ) → startFits kind (pos 0) ≡ true
+unfolding startFits
+nought-fits kind = by-kind (eqb kind 0)
+  where
+    by-kind : (phase : Bool) → cond phase true true ≡ true
+    by-kind true = refl
+    by-kind false = refl
+
+module _ (bytes : List ℕ) (first : versionOf bytes ≡ 2 → ⊥) where
+  pub first-head : headLength bytes ≡ 8
+  unfolding headLength
+  first-head = rw (ne-eqb (versionOf bytes) 2 first)
+
+  pub first-start : startOf bytes ≡ pos 0
+  unfolding startOf
+  first-start = rw (ne-eqb (versionOf bytes) 2 first)
+
+  pub first-values : recordValues bytes ≡ valuesOf bytes
+  unfolding recordValues valuesOf
+  first-values = rw first-head
+
+  same-sound : soundUpTo eitherTests bytes ≡ soundUpTo headerTests bytes
+  unfolding versionOf soundUpTo testsOf eitherTests headerTests
+  same-sound = by-bytes bytes (ne-eqb (getD bytes 3 0) 2 first)
+    where
+      one-of-two : (is other : Bool) → other ≡ false → (is || other) ≡ is
+      one-of-two true other e = refl
+      one-of-two false other e = e
+
+      by-bytes : (bytes : List ℕ) → eqb (getD bytes 3 0) 2 ≡ false → soundUpTo eitherTests bytes ≡ soundUpTo headerTests bytes
+      by-bytes [] e = refl
+      by-bytes (a ∷ []) e = refl
+      by-bytes (a ∷ b ∷ []) e = refl
+      by-bytes (a ∷ b ∷ c ∷ []) e = refl
+      by-bytes (a ∷ b ∷ c ∷ d ∷ rest) e = rw (one-of-two (eqb d 1) (eqb d 2) e)
+
+  header-as-first : headerRefusal bytes ≡ refusedIf (ltb (soundUpTo headerTests bytes) 8) 9 (soundUpTo headerTests bytes)
+  header-as-first = by-sound (ltb (soundUpTo headerTests bytes) 8) refl
+    where
+      by-sound : (wrong : Bool) → ltb (soundUpTo headerTests bytes) 8 ≡ wrong → headerRefusal bytes ≡ refusedIf wrong 9 (soundUpTo headerTests bytes)
+      by-sound true t = first-eight-wrong bytes (omega (arith, same-sound, ltb-true (soundUpTo headerTests bytes) 8 t)) ∙ ap (refused 9) same-sound
+      by-sound false t =
+          let sound : 8 ≤ soundUpTo eitherTests bytes = omega (arith, same-sound, ltb-false (soundUpTo headerTests bytes) 8 t) in
+          start-fit bytes sound (omega (arith, first-head, sound-within eitherTests bytes)) (rw first-start (nought-fits (kindOf bytes)))
+
+  -- it is refused, or not, as the reader of version 1 alone refuses it
+  pub as-first-version : (room : ℕ) → readRecordRefusal bytes room ≡ readRefusal bytes room
+  unfolding readRecordRefusal readRefusal inRange
+  as-first-version room = rw (header-as-first, first-head, first-start, first-values)
+
+  pub first-version : (room : ℕ) → readRecordRefusal bytes room ≡ none → versionOf bytes ≡ 1
+  unfolding versionOf eitherTests testsOf
+  first-version room accepted =
+      let sound = unrefused-record bytes room (ap (λ (r : Refusal). r .number) accepted) .header .sound in
+      one-known (getD bytes 3 0) (eqb (getD bytes 3 0) 1) refl (ne-eqb (getD bytes 3 0) 2 first) (passed _ bytes sound 3 (omega arith))
+    where
+      one-known : (b : ℕ) (is : Bool) → eqb b 1 ≡ is → eqb b 2 ≡ false → (eqb b 1 || eqb b 2) ≡ true → b ≡ 1
+      one-known b true e f t = eqb-true b 1 e
+      one-known b false e f t = absurd (true≢false (sym (rw e at t) ∙ f))
+
+-- ---- version 2: what was written is read
+
+-- every byte of a file is below 256
+pub file-from-bytes : (kind : ℕ) (start : ℤ) (values : List ℤ) → kind ≤ 1 → AreBytes (fileFrom kind start values)
+unfolding fileFrom headerFrom
+file-from-bytes kind start values known =
+    bytes-joined (headerFrom kind start (length values)) (valuesBytes values)
+    (bytes-joined (firstEight 2 kind (length values)) (valueBytes start) (first-eight-bytes 2 kind (length values) known) (value-bytes-are-bytes start))
+    (values-bytes-are-bytes values)
+
+-- a file is 16 bytes and 8 for each value
+pub file-from-length : (kind : ℕ) (start : ℤ) (values : List ℤ) → length (fileFrom kind start values) ≡ 16 + 8 * length values
+unfolding fileFrom headerFrom firstEight lowFirst
+file-from-length kind start values = omega (arith, values-bytes-length values)
+
+-- a start that a kind may have, as the tests say it
+module _ (kind : ℕ) (start : ℤ) where
+  pub proper-fits : ProperStart kind start → startFits kind start ≡ true
+  unfolding startFits
+  proper-fits p = by-kind (eqb kind 0) refl
+    where
+      by-kind : (phase : Bool) → eqb kind 0 ≡ phase → cond phase (eqb (natAbs start) 0) true ≡ true
+      by-kind true t = rw (p .of-phase (eqb-true kind 0 t)) refl
+      by-kind false t = refl
+
+  pub fits-proper : startFits kind start ≡ true → inRange start ≡ true → ProperStart kind start
+  unfolding startFits
+  fits-proper fits near = record {
+    in-range = sample-bounded start near;
+    of-phase = λ phase. size-nought start (eqb-true (natAbs start) 0 (rw (eq-eqb kind 0 phase) at fits));
+  }
+    where
+      size-nought : (z : ℤ) → natAbs z ≡ 0 → z ≡ pos 0
+      size-nought (pos n) e = ap pos e
+      size-nought (negsuc n) e = absurd (omega arith)
+
+module _ (kind : ℕ) (start : ℤ) (values : List ℤ) (proper : Proper kind values) (proper-start : ProperStart kind start) where
+  -- the first eight bytes and the rest
+  begins : fileFrom kind start values ≡ firstEight 2 kind (length values) ++ (valueBytes start ++ valuesBytes values)
+  unfolding fileFrom headerFrom
+  begins = append-assoc (firstEight 2 kind (length values)) (valueBytes start) (valuesBytes values)
+
+  -- reading a written file gives version 2, the kind, the start, how many values there are, and the values
+  pub version-comes-back-from : versionOf (fileFrom kind start values) ≡ 2
+  version-comes-back-from = ap versionOf begins ∙ version-there 2 kind (length values) (valueBytes start ++ valuesBytes values) (omega arith)
+
+  pub kind-comes-back-from : kindOf (fileFrom kind start values) ≡ kind
+  kind-comes-back-from = ap kindOf begins ∙ kind-there 2 kind (length values) (valueBytes start ++ valuesBytes values)
+
+  pub count-comes-back-from : countOf (fileFrom kind start values) ≡ length values
+  count-comes-back-from =
+      ap countOf begins ∙ count-there 2 kind (length values) (valueBytes start ++ valuesBytes values) (omega (arith, proper .few, most-values-bounded kind))
+
+  head-is : headLength (fileFrom kind start values) ≡ 16
+  unfolding headLength
+  head-is = rw (eq-eqb _ 2 version-comes-back-from)
+
+  pub start-comes-back : startOf (fileFrom kind start values) ≡ start
+  unfolding startOf firstEight lowFirst
+  start-comes-back =
+      rw (eq-eqb _ 2 version-comes-back-from)
+      (ap (λ (bytes : List ℕ). valueAt bytes 8) begins
+      ∙ value-back (firstEight 2 kind (length values)) (valuesBytes values) 8 start refl (small-fits start (omega (arith, proper-start .in-range))))
+
+  pub values-come-back-from : recordValues (fileFrom kind start values) ≡ values
+  unfolding recordValues fileFrom headerFrom firstEight lowFirst
+  values-come-back-from =
+      rw (head-is, count-comes-back-from)
+      (ap (λ (bytes : List ℕ). valuesFrom 16 (length values) (headerFrom kind start (length values) ++ bytes)) (sym (append-nil (valuesBytes values)))
+      ∙ values-back values (headerFrom kind start (length values)) [] 16 refl (λ i h. in-range-fits kind (at values i) (proper .in-range i h)))
+
+  from-sound : soundUpTo eitherTests (fileFrom kind start values) ≡ 8
+  unfolding eitherTests
+  from-sound =
+      ap (soundUpTo eitherTests) begins
+      ∙ first-eight-sound 2 kind (length values) (valueBytes start ++ valuesBytes values) (λ b. eqb b 1 || eqb b 2) refl (omega arith) (proper .known)
+
+  file-from-readable : (room : ℕ) → length values ≤ room → ReadableRecord (fileFrom kind start values) room
+  file-from-readable room enough = record {
+    header = record {
+      sound = omega (arith, from-sound);
+      present = omega (arith, head-is, file-from-length kind start values);
+      start-fits = rw (kind-comes-back-from, start-comes-back) (proper-fits kind start proper-start);
+    };
+    counted = record {
+      few = rw (kind-comes-back-from, count-comes-back-from) (proper .few);
+      whole = file-from-length kind start values ∙ rw (head-is, count-comes-back-from);
+      enough = rw count-comes-back-from enough;
+    };
+    start-in-range = rw start-comes-back (bounded-sample start (proper-start .in-range));
+    in-range = rw (kind-comes-back-from, values-come-back-from) (proper .in-range);
+  }
+
+  -- and it is not refused, where the buffer has room for the values
+  pub file-from-is-read : (room : ℕ) → length values ≤ room → readRecordRefusal (fileFrom kind start values) room ≡ none
+  file-from-is-read room enough = readable-record-none (fileFrom kind start values) room (file-from-readable room enough)
+
+  pub file-from-answer : (room : ℕ) → length values ≤ room →
+      readRecordAnswer (fileFrom kind start values) room ≡ record { number = 0; place = 0; version = 2; kind = kind; start = start; count = length values }
+  unfolding readRecordAnswer
+  file-from-answer room enough = rw (file-from-is-read room enough, version-comes-back-from, kind-comes-back-from, start-comes-back, count-comes-back-from)
+
+-- what writing does not refuse is proper
+pub unrefused-proper-from : (kind : ℕ) (start : ℤ) (values : List ℤ) (room : ℕ) → writeRecordRefusal kind start values room ≡ none →
+    Proper kind values × ProperStart kind start
+unrefused-proper-from kind start values room unrefused =
+    let w = unrefused-from kind start values room (ap (λ (r : Refusal). r .number) unrefused) in
+    let held = w .writable in
+    (record { known = held .known; few = held .few; in-range = held .in-range }, fits-proper kind start (w .start-fits) (w .start-in-range))
+
+-- and the front of the buffer that it leaves is the file
+pub buffer-has-file-from : (kind : ℕ) (start : ℤ) (values : List ℤ) (buffer : List ℕ) → writeRecordRefusal kind start values (length buffer) ≡ none →
+    take (16 + 8 * length values) (bufferLeft (writeRecordRefusal kind start values (length buffer)) (fileFrom kind start values) buffer) ≡ fileFrom kind start values
+unfolding bufferLeft
+buffer-has-file-from kind start values buffer unrefused = rw unrefused (take-at (fileFrom kind start values) _ _ (file-from-length kind start values))
+
+-- ---- version 2: what is read was written
+
+module _ (bytes : List ℕ) (all : AreBytes bytes) (room : ℕ) (second : versionOf bytes ≡ 2) (accepted : readRecordRefusal bytes room ≡ none) where
+  readable : ReadableRecord bytes room
+  readable = unrefused-record bytes room (ap (λ (r : Refusal). r .number) accepted)
+
+  head-there : headLength bytes ≡ 16
+  unfolding headLength
+  head-there = rw (eq-eqb _ 2 second)
+
+  whole : length bytes ≡ 16 + 8 * countOf bytes
+  whole = readable .counted .whole ∙ ap (λ (n : ℕ). n + 8 * countOf bytes) head-there
+
+  start-there : startOf bytes ≡ valueAt bytes 8
+  unfolding startOf
+  start-there = rw (eq-eqb _ 2 second)
+
+  record-values-there : recordValues bytes ≡ valuesFrom 16 (countOf bytes) bytes
+  unfolding recordValues
+  record-values-there = rw head-there
+
+  header-there : take 16 bytes ≡ headerFrom (kindOf bytes) (startOf bytes) (countOf bytes)
+  unfolding headerFrom eitherTests
+  header-there =
+      take-add 8 8 bytes
+      ∙ ap₂ _++_ (eight-there (λ b. eqb b 1 || eqb b 2) bytes (readable .header .sound) all (omega arith) second)
+      (sym (value-bytes-back bytes 8 all (omega (arith, whole))) ∙ ap valueBytes (sym start-there))
+
+  accepted-is-file-from : bytes ≡ fileFrom (kindOf bytes) (startOf bytes) (recordValues bytes)
+  unfolding fileFrom
+  accepted-is-file-from =
+      sym (take-append-drop 16 bytes)
+      ∙ ap₂ _++_ (header-there ∙ ap (headerFrom (kindOf bytes) (startOf bytes)) (sym (record-values-length bytes)))
+      (values-there 16 bytes all whole ∙ ap valuesBytes (sym record-values-there))
+
+  pub accepted-from : IsFileFrom bytes room
+  unfolding eitherTests
+  accepted-from = record {
+    kind = kindOf bytes;
+    start = startOf bytes;
+    values = recordValues bytes;
+    proper = record {
+      known = kind-passed (λ b. eqb b 1 || eqb b 2) bytes (readable .header .sound);
+      few = rw (record-values-length bytes) (readable .counted .few);
+      in-range = readable .in-range;
+    };
+    proper-start = fits-proper (kindOf bytes) (startOf bytes) (readable .header .start-fits) (readable .start-in-range);
+    enough = rw (record-values-length bytes) (readable .counted .enough);
+    same = accepted-is-file-from;
+  }
+
+-- ---- so the reader of either version accepts the files of both, and nothing else
+
+file-is-first : (kind : ℕ) (values : List ℤ) → versionOf (fileOf kind values) ≡ 2 → ⊥
+unfolding fileOf header
+file-is-first kind values e = omega (arith, version-there 1 kind (length values) (valuesBytes values) (omega arith))
+
+pub accepted-either : (bytes : List ℕ) (room : ℕ) → AreBytes bytes →
+    (readRecordRefusal bytes room ≡ none → IsFile bytes room ⊎ IsFileFrom bytes room) × (IsFile bytes room ⊎ IsFileFrom bytes room → readRecordRefusal bytes room ≡ none)
+accepted-either bytes room all = (λ accepted. by-version (eqb (versionOf bytes) 2) refl accepted, is-read)
+  where
+    by-version : (second : Bool) → eqb (versionOf bytes) 2 ≡ second → readRecordRefusal bytes room ≡ none → IsFile bytes room ⊎ IsFileFrom bytes room
+    by-version true t accepted = inr (accepted-from bytes all room (eqb-true (versionOf bytes) 2 t) accepted)
+    by-version false t accepted =
+        inl (accepted-exactly bytes room all .0 (sym (as-first-version bytes (eqb-false (versionOf bytes) 2 t) room) ∙ accepted))
+
+    is-read : IsFile bytes room ⊎ IsFileFrom bytes room → readRecordRefusal bytes room ≡ none
+    is-read (inl f) =
+        let first : versionOf bytes ≡ 2 → ⊥ = rw (f .same) (file-is-first (f .kind) (f .values)) in
+        as-first-version bytes first room ∙ accepted-exactly bytes room all .1 f
+    is-read (inr f) = rw (f .same) (file-from-is-read (f .kind) (f .start) (f .values) (f .proper) (f .proper-start) room (f .enough))
