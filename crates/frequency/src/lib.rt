@@ -8,13 +8,22 @@ ghost use lib.ListN.{length};
 ghost use Rattle.laws.specs.Lists.{written};
 ghost use Rattle.record.specs.Refusals.{none, inRange, rangeRefusal};
 ghost use Rattle.record.specs.Answers.{countAnswer, bufferLeft};
-ghost use Rattle.frequency.specs.Frequency.{phases, firstLeaving, phaseRefusal, differences, frequencyRefusal};
+ghost use Rattle.frequency.specs.Frequency.{phasesFrom, phases, firstLeaving, phaseRefusal, startRefusal, differences, frequencyRefusal};
 
 // Phases from readings: M readings give M + 1 phases, the first of them 0. Refuses 2, 6, then 3 at the first reading whose running phase leaves
 // the sample range.
 pub fn phase_from_frequency(readings: &[i64], buffer: &mut [i64]) -> CountAnswer
     ensures { λ r. ⌜ r ≡ countAnswer (phaseRefusal (now (readings .entry)) (length (now (buffer .entry)))) (length (now (readings .entry)) + 1) ⌝ }
     ensures { λ r. ⌜ now (buffer .exit) ≡ bufferLeft (phaseRefusal (now (readings .entry)) (length (now (buffer .entry)))) (phases (now (readings .entry))) (now (buffer .entry)) ⌝ }
+{
+    phase_from_start(0, readings, buffer)
+}
+
+// Phases from readings, from a start on: M readings give M + 1 phases, the first of them the start. Refuses 2, 6, 3 at place 0 for a start outside the
+// sample range, then 3 at the first reading whose running phase leaves it.
+pub fn phase_from_start(start: i64, readings: &[i64], buffer: &mut [i64]) -> CountAnswer
+    ensures { λ r. ⌜ r ≡ countAnswer (startRefusal start (now (readings .entry)) (length (now (buffer .entry)))) (length (now (readings .entry)) + 1) ⌝ }
+    ensures { λ r. ⌜ now (buffer .exit) ≡ bufferLeft (startRefusal start (now (readings .entry)) (length (now (buffer .entry)))) (phasesFrom start (now (readings .entry))) (now (buffer .entry)) ⌝ }
 {
     let count = readings.len();
     if record::MOST_READINGS < count as u64 {
@@ -23,11 +32,14 @@ pub fn phase_from_frequency(readings: &[i64], buffer: &mut [i64]) -> CountAnswer
     if buffer.len() < count + 1 {
         return record::refused_count(record::NO_ROOM, 0);
     }
-    let leaving = first_leaving(readings);
+    if !record::in_range(start) {
+        return record::refused_count(record::OUT_OF_RANGE, 0);
+    }
+    let leaving = first_leaving(start, readings);
     if leaving < count {
         return record::refused_count(record::OUT_OF_RANGE, leaving as u64);
     }
-    write_phases(readings, buffer);
+    write_phases(start, readings, buffer);
     CountAnswer {
         number: 0,
         place: 0,
@@ -64,10 +76,11 @@ pub fn frequency_from_phase(samples: &[i64], buffer: &mut [i64]) -> CountAnswer
 }
 
 // The first reading whose running phase leaves the sample range, or the number of readings.
-fn first_leaving(readings: &[i64]) -> usize
-    ensures { λ r. ⌜ r ≡ firstLeaving (now (readings .entry)) ⌝ }
+fn first_leaving(start: i64, readings: &[i64]) -> usize
+    requires { ⌜ natAbs start ≤ 2 ^ 40 ⌝ }
+    ensures { λ r. ⌜ r ≡ firstLeaving start (now (readings .entry)) ⌝ }
 {
-    let mut phase: i64 = 0;
+    let mut phase: i64 = start;
     let mut i: usize = 0;
     while i < readings.len() {
         let reading = readings[i];
@@ -96,11 +109,11 @@ fn stays(phase: i64, reading: i64) -> bool
 }
 
 // The phases at the front of the buffer.
-fn write_phases(readings: &[i64], buffer: &mut [i64])
-    requires { ⌜ (firstLeaving (now readings) ≡ length (now readings)) × (length (now readings) < length (now buffer)) ⌝ }
-    ensures { λ r. ⌜ now (buffer .exit) ≡ written (phases (now (readings .entry))) (now (buffer .entry)) ⌝ }
+fn write_phases(start: i64, readings: &[i64], buffer: &mut [i64])
+    requires { ⌜ (natAbs start ≤ 2 ^ 40) × (firstLeaving start (now readings) ≡ length (now readings)) × (length (now readings) < length (now buffer)) ⌝ }
+    ensures { λ r. ⌜ now (buffer .exit) ≡ written (phasesFrom start (now (readings .entry))) (now (buffer .entry)) ⌝ }
 {
-    let mut phase: i64 = 0;
+    let mut phase: i64 = start;
     let mut i: usize = 0;
     while i < readings.len() {
         buffer[i] = phase;
