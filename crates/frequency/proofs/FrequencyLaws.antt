@@ -1,12 +1,13 @@
 -- What the code of phase from frequency and back asks: a running phase that stays in range or leaves it, one turn of each loop, and the cases of
--- the two refusals in their order.
+-- the refusals in their order.
 use mathlib.Core.Path.{_≡_, refl, sym, ap, _∙_}
 use mathlib.Core.Bool.{Bool, true, false}
 use mathlib.Core.List.{List}
 use Prim.Native.Nat.{ℕ, zero, suc, _+_, _-_, _^_, _≤_, _<_}
+use native.Mathlib.Numerals.{add-one}
 use native.Mathlib.Omega.{arith}
 use borrow.Author.Tests.{lt-leb, lt-ltb, le-ltb, eq-eqb, ne-eqb}
-use lib.IntN.{ℤ, pos, negsuc, natAbs, _+ℤ_, _-ℤ_}
+use lib.IntN.{ℤ, pos, negsuc, natAbs, _+ℤ_, _-ℤ_, +ℤ-idr, +ℤ-assoc}
 use lib.ListN.{length, drop, set, length-drop, length-set}
 use lib.Seq.{getD-drop}
 use lib.Signed.{mag, ltZ}
@@ -15,12 +16,12 @@ use mir.Val.{ofZ, toZ, SFits}
 use Rattle.laws.specs.Lists.{at, firstFailing, written}
 use Rattle.laws.specs.Sums.{sumℤ}
 use Rattle.laws.proofs.ListLaws.{tabulate-length, tabulate-entry, search-goes-on, search-ends-here, search-ends, first-failing-within, all-pass, writtenSoFar, written-one-more, written-whole}
-use Rattle.laws.proofs.SumLaws.{sumℤ-zero, sumℤ-suc, sumℤ-step}
+use Rattle.laws.proofs.SumLaws.{sumℤ-zero, sumℤ-step}
 use Rattle.laws.proofs.Parts.{one-part, +ℤ-parts, size-is, small-fits}
 use Rattle.laws.proofs.Expressions.{Expression, $_, ±_, _∋_, _⊕_, _⊖_}
-use Rattle.laws.proofs.Machine.{Fit, machine, result, machine-is, result-is, argument, LeavesFit, argument-is, lt-taken, lt-left}
+use Rattle.laws.proofs.Machine.{Fit, machine, result, machine-is, result-is, operation-fits, argument, LeavesFit, argument-is, lt-taken, lt-left}
 use Rattle.record.specs.Refusals.{none, refused, inRange, rangeRefusal}
-use Rattle.frequency.specs.Frequency.{phases, firstLeaving, phaseRefusal, differences, frequencyRefusal}
+use Rattle.frequency.specs.Frequency.{phasesFrom, firstLeaving, phaseRefusal, startRefusal, differences, frequencyRefusal}
 use Rattle.record.proofs.RangeLaws.{sample-bounded}
 use Rattle.record.proofs.RefusalLaws.{range-bounded}
 
@@ -47,159 +48,168 @@ module _ (x y : ℤ) (in-range : natAbs x ≤ 2 ^ 40) (fits : SFits w64 y) where
 
 -- ---- the running phase
 
--- the sum of the first i readings
-abbrev pub running : List ℤ → ℕ → ℤ
-running ys i = sumℤ i (at ys)
+module _ (start : ℤ) (ys : List ℤ) where
+  -- the start with the first i readings added
+  abbrev pub running : ℕ → ℤ
+  running i = start +ℤ sumℤ i (at ys)
 
--- the phases that the readings lead to: all but the first
-abbrev pub later : List ℤ → List ℤ
-later ys = drop 1 (phases ys)
+  -- the phases that the readings lead to: all but the first
+  abbrev pub later : List ℤ
+  later = drop 1 (phasesFrom start ys)
 
-module _ (ys : List ℤ) where
-  pub phases-length : length (phases ys) ≡ length ys + 1
-  unfolding phases
-  phases-length = tabulate-length _ _
+  running-first : running 0 ≡ start
+  running-first = ap (λ (t : ℤ). start +ℤ t) (sumℤ-zero (at ys)) ∙ +ℤ-idr start
 
-  pub phase-is : (i : ℕ) → i ≤ length ys → at (phases ys) i ≡ running ys i
-  unfolding phases
-  phase-is i h = tabulate-entry (length ys + 1) (running ys) (pos 0) i (omega arith)
+  pub running-step : (i : ℕ) → running (i + 1) ≡ running i +ℤ at ys i
+  running-step i = ap (λ (t : ℤ). start +ℤ t) (sumℤ-step i (at ys)) ∙ sym (+ℤ-assoc start (sumℤ i (at ys)) (at ys i))
 
-  pub later-length : length (later ys) ≡ length ys
-  later-length = omega (arith, length-drop 1 (phases ys), phases-length)
+  pub phases-from-length : length (phasesFrom start ys) ≡ length ys + 1
+  unfolding phasesFrom
+  phases-from-length = tabulate-length _ _
 
-  pub later-is : (i : ℕ) → i < length ys → at (later ys) i ≡ running ys i +ℤ at ys i
+  pub phase-from-is : (i : ℕ) → i ≤ length ys → at (phasesFrom start ys) i ≡ running i
+  unfolding phasesFrom
+  phase-from-is i h = tabulate-entry (length ys + 1) running (pos 0) i (omega arith)
+
+  pub later-length : length later ≡ length ys
+  later-length = omega (arith, length-drop 1 (phasesFrom start ys), phases-from-length)
+
+  pub later-is : (i : ℕ) → i < length ys → at later i ≡ running (i + 1)
   later-is i h =
       let next : 1 + i ≡ i + 1 = omega arith in
-      getD-drop 1 (phases ys) i (pos 0) ∙ phase-is (1 + i) (omega arith) ∙ ap (running ys) next ∙ sumℤ-step i (at ys)
+      getD-drop 1 (phasesFrom start ys) i (pos 0) ∙ phase-from-is (1 + i) (omega arith) ∙ ap running next
 
--- ---- one turn of a loop that adds a reading: s is the running phase's bits
+  -- ---- one turn of a loop that adds a reading: s is the running phase's bits
 
--- the phase with one reading more
-abbrev pub grown : List ℤ → ℕ → ℕ → Expression
-grown ys i s = s ∋ running ys i ⊕ $ at ys i
+  -- the phase with one reading more
+  abbrev pub grown : ℕ → ℕ → Expression
+  grown i s = s ∋ running i ⊕ $ at ys i
 
-module _ (ys : List ℤ) (i s : ℕ) (in-range : natAbs (running ys i) ≤ 2 ^ 40) (s-is : s ≡ ofZ w64 (running ys i))
-    (stays : inRange (running ys i +ℤ at ys i) ≡ true) where
-  grows-in-range : natAbs (running ys (i + 1)) ≤ 2 ^ 40
-  grows-in-range = rw (sumℤ-step i (at ys)) (sample-bounded _ stays)
+  module _ (i s : ℕ) (in-range : natAbs (running i) ≤ 2 ^ 40) (s-is : s ≡ ofZ w64 (running i)) (stays : inRange (running (i + 1)) ≡ true) where
+    grown-fits : Fit w64 (grown i s)
+    grown-fits =
+        let x = running i in
+        let y = at ys i in
+        let next = x +ℤ y in
+        let bounded : natAbs next ≤ 2 ^ 40 = rw (running-step i) at (sample-bounded _ stays) in
+        omega (arith, s-is, bounded, +ℤ-parts x y, one-part x, one-part y, one-part next, size-is x, size-is y, size-is next)
 
-  grows-fits : Fit w64 (grown ys i s)
-  grows-fits =
-      let x = running ys i in
-      let y = at ys i in
-      let next = x +ℤ y in
-      omega (arith, s-is, sample-bounded next stays, +ℤ-parts x y, one-part x, one-part y, one-part next, size-is x, size-is y, size-is next)
+    grows-in-word : SFits w64 (result w64 (grown i s))
+    grows-in-word = operation-fits w64 (grown i s) grown-fits
 
-  grows : ofZ w64 (result w64 (grown ys i s)) ≡ ofZ w64 (running ys (i + 1))
-  grows = ap (ofZ w64) (result-is w64 (grown ys i s) grows-fits ∙ sym (sumℤ-step i (at ys)))
+    grows : ofZ w64 (result w64 (grown i s)) ≡ ofZ w64 (running (i + 1))
+    grows = ap (ofZ w64) (result-is w64 (grown i s) grown-fits ∙ sym (running-step i))
 
 -- ---- the first reading whose phase leaves the range
 
 -- what the search knows after i readings
-pub record NoneLeft (ys : List ℤ) (s i : ℕ) : Type 0 where
+pub record NoneLeft (start : ℤ) (ys : List ℤ) (s i : ℕ) : Type 0 where
   pub within : i ≤ length ys
-  pub in-range : natAbs (running ys i) ≤ 2 ^ 40
-  pub phase : s ≡ ofZ w64 (running ys i)
-  pub none-left : firstLeaving ys ≡ i + firstFailing inRange (drop i (later ys))
+  pub in-range : natAbs (running start ys i) ≤ 2 ^ 40
+  pub phase : s ≡ ofZ w64 (running start ys i)
+  pub none-left : firstLeaving start ys ≡ i + firstFailing inRange (drop i (later start ys))
 
-pub none-left-yet : (ys : List ℤ) → NoneLeft ys 0 0
+pub none-left-yet : (start : ℤ) (ys : List ℤ) → natAbs start ≤ 2 ^ 40 → NoneLeft start ys (ofZ w64 start) 0
 unfolding firstLeaving
-none-left-yet ys = record {
+none-left-yet start ys in-range = record {
   within = omega arith;
-  in-range = rw sumℤ-zero (omega arith);
-  phase = ap (ofZ w64) (sym (sumℤ-zero (at ys)));
+  in-range = rw (running-first start ys) in-range;
+  phase = ap (ofZ w64) (sym (running-first start ys));
   none-left = omega arith;
 }
 
-module _ {ys : List ℤ} {s i : ℕ} (so-far : NoneLeft ys s i) where
+module _ {start : ℤ} {ys : List ℤ} {s i : ℕ} (so-far : NoneLeft start ys s i) where
   pub phase-so-far : natAbs (toZ w64 s) ≤ 2 ^ 40
-  phase-so-far = rw (machine-is w64 (s ∋ running ys i) (so-far .phase, small-fits (running ys i) (omega arith))) (so-far .in-range)
+  phase-so-far =
+      rw (machine-is w64 (s ∋ running start ys i) (so-far .phase, small-fits (running start ys i) (omega arith))) (so-far .in-range)
 
   -- what the test of a loaded reading tells
-  pub reading-tells : mag (at ys i) < 2 ^ 63 → {answer b : Bool} → answer ≡ inRange (argument w64 (grown ys i s)) → answer ≡ b →
-      inRange (running ys i +ℤ at ys i) ≡ b
+  pub reading-tells : mag (at ys i) < 2 ^ 63 → {answer b : Bool} → answer ≡ inRange (argument w64 (grown start ys i s)) → answer ≡ b →
+      inRange (running start ys (i + 1)) ≡ b
   reading-tells fits e t =
-      let known : LeavesFit w64 (grown ys i s) = ((so-far .phase, small-fits (running ys i) (omega arith)), record { sfits = fits }) in
-      ap inRange (sym (argument-is w64 (grown ys i s) known)) ∙ sym e ∙ t
+      let known : LeavesFit w64 (grown start ys i s) = ((so-far .phase, small-fits (running start ys i) (omega arith)), record { sfits = fits }) in
+      ap inRange (running-step start ys i ∙ sym (argument-is w64 (grown start ys i s) known)) ∙ sym e ∙ t
 
-  pub staying-fits : inRange (running ys i +ℤ at ys i) ≡ true → Fit w64 (grown ys i s)
-  staying-fits = grows-fits ys i s (so-far .in-range) (so-far .phase)
+  pub staying-fits : inRange (running start ys (i + 1)) ≡ true → SFits w64 (result w64 (grown start ys i s))
+  staying-fits = grows-in-word start ys i s (so-far .in-range) (so-far .phase)
 
   module _ (inside : i < length ys) where
-    pub stays-on : inRange (running ys i +ℤ at ys i) ≡ true → NoneLeft ys (ofZ w64 (result w64 (grown ys i s))) (i + 1)
+    pub stays-on : inRange (running start ys (i + 1)) ≡ true → NoneLeft start ys (ofZ w64 (result w64 (grown start ys i s))) (i + 1)
     unfolding firstLeaving
     stays-on stays = record {
       within = omega arith;
-      in-range = grows-in-range ys i s (so-far .in-range) (so-far .phase) stays;
-      phase = grows ys i s (so-far .in-range) (so-far .phase) stays;
-      none-left = search-goes-on inRange (pos 0) (later ys) i (omega (arith, later-length ys)) (so-far .none-left) (rw (later-is ys i inside) stays);
+      in-range = sample-bounded _ stays;
+      phase = grows start ys i s (so-far .in-range) (so-far .phase) stays;
+      none-left =
+          search-goes-on inRange (pos 0) (later start ys) i (omega (arith, later-length start ys)) (so-far .none-left) (rw (later-is start ys i inside) stays);
     }
 
-    pub leaves-here : inRange (running ys i +ℤ at ys i) ≡ false → firstLeaving ys ≡ i
+    pub leaves-here : inRange (running start ys (i + 1)) ≡ false → firstLeaving start ys ≡ i
     unfolding firstLeaving
     leaves-here leaves =
-        search-ends-here inRange (pos 0) (later ys) i (omega (arith, later-length ys)) (so-far .none-left) (rw (later-is ys i inside) leaves)
+        search-ends-here inRange (pos 0) (later start ys) i (omega (arith, later-length start ys)) (so-far .none-left) (rw (later-is start ys i inside) leaves)
 
-  pub none-leaves : i ≡ length ys → firstLeaving ys ≡ i
+  pub none-leaves : i ≡ length ys → firstLeaving start ys ≡ i
   unfolding firstLeaving
   none-leaves whole =
-      let end : i ≡ length (later ys) = omega (arith, later-length ys) in
-      search-ends inRange (later ys) i end (so-far .none-left) ∙ sym end
+      let end : i ≡ length (later start ys) = omega (arith, later-length start ys) in
+      search-ends inRange (later start ys) i end (so-far .none-left) ∙ sym end
 
 -- ---- the phases where no reading leaves the range
 
-pub no-reading-leaves : (ys : List ℤ) → length ys ≤ firstLeaving ys → firstLeaving ys ≡ length ys
+pub no-reading-leaves : (start : ℤ) (ys : List ℤ) → length ys ≤ firstLeaving start ys → firstLeaving start ys ≡ length ys
 unfolding firstLeaving
-no-reading-leaves ys h = omega (arith, first-failing-within inRange (later ys), later-length ys)
+no-reading-leaves start ys h = omega (arith, first-failing-within inRange (later start ys), later-length start ys)
 
-module _ (ys : List ℤ) (stay : firstLeaving ys ≡ length ys) where
-  pub reading-stays : (i : ℕ) → i < length ys → inRange (running ys i +ℤ at ys i) ≡ true
+module _ (start : ℤ) (ys : List ℤ) (stay : firstLeaving start ys ≡ length ys) where
+  pub reading-stays : (i : ℕ) → i < length ys → inRange (running start ys (i + 1)) ≡ true
   unfolding firstLeaving
   reading-stays i h =
-      let all = all-pass inRange (pos 0) (later ys) (stay ∙ sym (later-length ys)) in
-      rw (later-is ys i h) at (all i (omega (arith, later-length ys)))
+      let all = all-pass inRange (pos 0) (later start ys) (stay ∙ sym (later-length start ys)) in
+      rw (later-is start ys i h) at (all i (omega (arith, later-length start ys)))
 
-  pub phase-in-range : (i : ℕ) → i ≤ length ys → natAbs (running ys i) ≤ 2 ^ 40
-  phase-in-range zero h = rw sumℤ-zero (omega arith)
-  phase-in-range (suc i) h = rw (sumℤ-suc i (at ys)) (sample-bounded _ (reading-stays i (omega arith)))
+  pub phase-in-range : natAbs start ≤ 2 ^ 40 → (i : ℕ) → i ≤ length ys → natAbs (running start ys i) ≤ 2 ^ 40
+  phase-in-range in-range zero h = rw (running-first start ys) in-range
+  phase-in-range in-range (suc i) h = rw (← add-one i) (sample-bounded _ (reading-stays i (omega arith)))
 
 -- what the loop knows with i phases written at the front of the buffer
-pub record PhasesWritten (ys before now : List ℤ) (s i : ℕ) : Type 0 where
+pub record PhasesWritten (start : ℤ) (ys before now : List ℤ) (s i : ℕ) : Type 0 where
   pub within : i ≤ length ys
-  pub phase : s ≡ ofZ w64 (running ys i)
+  pub phase : s ≡ ofZ w64 (running start ys i)
   pub same-length : length now ≡ length before
-  pub front : now ≡ writtenSoFar i (phases ys) before
+  pub front : now ≡ writtenSoFar i (phasesFrom start ys) before
 
-pub no-phase-written : (ys before : List ℤ) → PhasesWritten ys before before 0 0
-no-phase-written ys before =
-    record { within = omega arith; phase = ap (ofZ w64) (sym (sumℤ-zero (at ys))); same-length = refl; front = refl }
+pub no-phase-written : (start : ℤ) (ys before : List ℤ) → PhasesWritten start ys before before (ofZ w64 start) 0
+no-phase-written start ys before =
+    record { within = omega arith; phase = ap (ofZ w64) (sym (running-first start ys)); same-length = refl; front = refl }
 
-module _ {ys before now : List ℤ} {s i : ℕ} (stay : firstLeaving ys ≡ length ys) (room : length ys < length before)
-    (so-far : PhasesWritten ys before now s i) where
-  phase-here : natAbs (running ys i) ≤ 2 ^ 40
-  phase-here = phase-in-range ys stay i (so-far .within)
+module _ {start : ℤ} {ys before now : List ℤ} {s i : ℕ} (in-range : natAbs start ≤ 2 ^ 40) (stay : firstLeaving start ys ≡ length ys)
+    (room : length ys < length before) (so-far : PhasesWritten start ys before now s i) where
+  phase-here : natAbs (running start ys i) ≤ 2 ^ 40
+  phase-here = phase-in-range start ys stay in-range i (so-far .within)
 
-  phase-stored : set now i (toZ w64 s) ≡ writtenSoFar (i + 1) (phases ys) before
+  phase-stored : set now i (toZ w64 s) ≡ writtenSoFar (i + 1) (phasesFrom start ys) before
   phase-stored =
-      let fits : SFits w64 (running ys i) = small-fits (running ys i) (omega (arith, phase-here)) in
-      let read : toZ w64 s ≡ running ys i = machine-is w64 (s ∋ running ys i) (so-far .phase, fits) in
-      let inside : i < length (phases ys) = omega (arith, phases-length ys, so-far .within) in
-      written-one-more (phases ys) before i (pos 0) inside (omega (arith, so-far .within)) (so-far .front) (read ∙ sym (phase-is ys i (so-far .within)))
+      let fits : SFits w64 (running start ys i) = small-fits (running start ys i) (omega (arith, phase-here)) in
+      let read : toZ w64 s ≡ running start ys i = machine-is w64 (s ∋ running start ys i) (so-far .phase, fits) in
+      let inside : i < length (phasesFrom start ys) = omega (arith, phases-from-length start ys, so-far .within) in
+      written-one-more (phasesFrom start ys) before i (pos 0) inside (omega (arith, so-far .within)) (so-far .front)
+      (read ∙ sym (phase-from-is start ys i (so-far .within)))
 
   module _ (inside : i < length ys) where
-    pub next-phase-fits : Fit w64 (grown ys i s)
-    next-phase-fits = grows-fits ys i s phase-here (so-far .phase) (reading-stays ys stay i inside)
+    pub next-phase-fits : SFits w64 (result w64 (grown start ys i s))
+    next-phase-fits = grows-in-word start ys i s phase-here (so-far .phase) (reading-stays start ys stay i inside)
 
-    pub one-phase-more : PhasesWritten ys before (set now i (toZ w64 s)) (ofZ w64 (result w64 (grown ys i s))) (i + 1)
+    pub one-phase-more : PhasesWritten start ys before (set now i (toZ w64 s)) (ofZ w64 (result w64 (grown start ys i s))) (i + 1)
     one-phase-more = record {
       within = omega arith;
-      phase = grows ys i s phase-here (so-far .phase) (reading-stays ys stay i inside);
+      phase = grows start ys i s phase-here (so-far .phase) (reading-stays start ys stay i inside);
       same-length = length-set now i (toZ w64 s) ∙ so-far .same-length;
       front = phase-stored;
     }
 
-  pub all-phases-written : i ≡ length ys → set now i (toZ w64 s) ≡ written (phases ys) before
-  all-phases-written whole = phase-stored ∙ written-whole (phases ys) before (i + 1) (omega (arith, phases-length ys))
+  pub all-phases-written : i ≡ length ys → set now i (toZ w64 s) ≡ written (phasesFrom start ys) before
+  all-phases-written whole = phase-stored ∙ written-whole (phasesFrom start ys) before (i + 1) (omega (arith, phases-from-length start ys))
 
 -- ---- the differences of a record in range
 
@@ -230,28 +240,38 @@ module _ (xs : List ℤ) where
   pub all-differences-written : (before : List ℤ) (i : ℕ) → i ≡ length xs - 1 → writtenSoFar i (differences xs) before ≡ written (differences xs) before
   all-differences-written before i whole = written-whole (differences xs) before i (omega (arith, differences-length))
 
--- ---- 2, 6, 3: the refusal of phase from frequency, with a buffer of so many entries
+-- ---- 2, 6, 3 of the start, 3 of a reading: the refusal of phase from a start, with a buffer of so many entries
 
-module _ (ys : List ℤ) (room : ℕ) where
-  pub readings-too-many : 32767 < length ys → phaseRefusal ys room ≡ refused 2 0
-  unfolding phaseRefusal
+module _ (start : ℤ) (ys : List ℤ) (room : ℕ) where
+  pub readings-too-many : 32767 < length ys → startRefusal start ys room ≡ refused 2 0
+  unfolding startRefusal
   readings-too-many h = simp (lt-ltb 32767 (length ys) h)
 
   module _ (few : length ys ≤ 32767) where
-    pub no-room-for-phases : room < length ys + 1 → phaseRefusal ys room ≡ refused 6 0
-    unfolding phaseRefusal
+    pub no-room-for-phases : room < length ys + 1 → startRefusal start ys room ≡ refused 6 0
+    unfolding startRefusal
     no-room-for-phases h = simp (le-ltb 32767 (length ys) few, lt-ltb room (length ys + 1) h)
 
     module _ (enough : length ys + 1 ≤ room) where
-      pub reading-leaves : (i : ℕ) → i < length ys → i ≡ firstLeaving ys → phaseRefusal ys room ≡ refused 3 i
-      unfolding phaseRefusal
-      reading-leaves i h e =
-          simp (le-ltb 32767 (length ys) few, le-ltb room (length ys + 1) enough, sym e, lt-ltb i (length ys) h)
+      pub start-outside : inRange start ≡ false → startRefusal start ys room ≡ refused 3 0
+      unfolding startRefusal
+      start-outside t = simp (le-ltb 32767 (length ys) few, le-ltb room (length ys + 1) enough, t)
 
-      pub phases-unrefused : firstLeaving ys ≡ length ys → phaseRefusal ys room ≡ none
-      unfolding phaseRefusal
-      phases-unrefused e =
-          simp (le-ltb 32767 (length ys) few, le-ltb room (length ys + 1) enough, e, le-ltb (length ys) (length ys) (omega arith))
+      module _ (inside : inRange start ≡ true) where
+        pub reading-leaves : (i : ℕ) → i < length ys → i ≡ firstLeaving start ys → startRefusal start ys room ≡ refused 3 i
+        unfolding startRefusal
+        reading-leaves i h e =
+            simp (le-ltb 32767 (length ys) few, le-ltb room (length ys + 1) enough, inside, sym e, lt-ltb i (length ys) h)
+
+        pub phases-unrefused : firstLeaving start ys ≡ length ys → startRefusal start ys room ≡ none
+        unfolding startRefusal
+        phases-unrefused e =
+            simp (le-ltb 32767 (length ys) few, le-ltb room (length ys + 1) enough, inside, e, le-ltb (length ys) (length ys) (omega arith))
+
+-- 0 is in range: from there phases are refused as phase from frequency is
+pub refusal-from-nought : (ys : List ℤ) (room : ℕ) → startRefusal (pos 0) ys room ≡ phaseRefusal ys room
+unfolding startRefusal phaseRefusal inRange
+refusal-from-nought ys room = refl
 
 -- ---- 2, 1, 6, 3: the refusal of frequency from phase
 

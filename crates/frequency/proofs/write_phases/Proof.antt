@@ -1,22 +1,23 @@
--- `frequency::write_phases` meets its contract. The loop's invariant: the phase is the sum of the readings below `i`, and the first `i`
--- phases are written.
+-- `frequency::write_phases` meets its contract. The loop's invariant: the phase is the start with the readings below `i` added, and
+-- the first `i` phases are written.
 use Prim.Native.Nat.{_-_}
 use native.Mathlib.Omega.{arith}
 use lib.ListN.{length, length-set}
 use mir.Syntax.{w64}
-use Rattle.laws.proofs.Machine.{operation-fits}
-use Rattle.frequency.proofs.FrequencyLaws.{grown, PhasesWritten, no-phase-written, next-phase-fits, one-phase-more, all-phases-written}
+use mir.Val.{toZ}
+use mir.Facts.{toZ-ofZ}
+use Rattle.frequency.proofs.FrequencyLaws.{PhasesWritten, no-phase-written, next-phase-fits, one-phase-more, all-phases-written}
 use Rattle.frequency.proofs.write_phases.Statement.{statement}
 use Rattle.frequency.proofs.write_phases.Tie as tie
 
 abbrev Inv-loop : tie.InvT-loop
-Inv-loop readings buffer₀ phase₀ i₀ buffer phase i = PhasesWritten readings buffer₀ buffer phase i
+Inv-loop start readings buffer₀ phase₀ i₀ buffer phase i = PhasesWritten (toZ w64 start) readings buffer₀ buffer phase i
 
 abbrev μ-loop : tie.MeasureT-loop
-μ-loop readings buffer₀ phase₀ i₀ buffer phase i = length readings - i
+μ-loop start readings buffer₀ phase₀ i₀ buffer phase i = length readings - i
 
 loop-holds : tie.Need-loop-holds Inv-loop μ-loop
-loop-holds c = no-phase-written _ _
+loop-holds c = rw (toZ-ofZ {w = w64} (c .fits .start)) (no-phase-written (c .args .start) _ _)
 
 mul-phase : tie.Need-mul-phase Inv-loop μ-loop
 mul-phase c = omega arith
@@ -34,7 +35,7 @@ add-phase : tie.Need-add-phase Inv-loop μ-loop
 add-phase c =
     let h = c .before .before in
     let s = h .before in
-    operation-fits w64 (grown (s .args .readings .now) (h .loop .i) (h .loop .phase)) (next-phase-fits (s .pre .0) (s .pre .1) (h .loop .inv) (omega arith))
+    next-phase-fits (s .pre .0) (s .pre .1) (s .pre .2) (rw (toZ-ofZ {w = w64} (s .fits .start)) at (h .loop .inv)) (omega arith)
 
 add-i : tie.Need-add-i Inv-loop μ-loop
 add-i c = omega arith
@@ -43,7 +44,11 @@ loop-less : tie.Need-loop-less Inv-loop μ-loop
 loop-less c = omega arith
 
 loop-again : tie.Need-loop-again Inv-loop μ-loop
-loop-again c = let h = c .before .before in one-phase-more (h .before .pre .0) (h .before .pre .1) (h .loop .inv) (omega arith)
+loop-again c =
+    let h = c .before .before in
+    let s = h .before in
+    let read = toZ-ofZ {w = w64} (s .fits .start) in
+    rw read (one-phase-more (s .pre .0) (s .pre .1) (s .pre .2) (rw read at (h .loop .inv)) (omega arith))
 
 mul-phase-3 : tie.Need-mul-phase-3 Inv-loop μ-loop
 mul-phase-3 c = omega arith
@@ -55,7 +60,10 @@ same-length : tie.Need-same-length Inv-loop μ-loop
 same-length c = simp length-set (omega arith)
 
 returns : tie.Need-returns Inv-loop μ-loop
-returns c = let h = c .before in all-phases-written (h .before .pre .0) (h .before .pre .1) (h .loop .inv) (omega arith)
+returns c =
+    let h = c .before in
+    let s = h .before in
+    all-phases-written (s .pre .0) (s .pre .1) (s .pre .2) (rw (toZ-ofZ {w = w64} (s .fits .start)) at (h .loop .inv)) (omega arith)
 
 pub write-phases-spec : {M : Type 1} → statement M
 write-phases-spec =
