@@ -1,10 +1,11 @@
 -- `frequency::phase_from_start` meets its contract.
 use borrow.Author.Needs.{needs}
-use mathlib.Core.Path.{_≡_}
+use mathlib.Core.Path.{_≡_, sym, _∙_}
 use mathlib.Core.Bool.{true}
 use native.Mathlib.Omega.{arith}
 use borrow.Author.Tests.{not-true, not-false}
 use mir.Syntax.{w64}
+use mir.Val.{ofZ, toZ}
 use mir.Facts.{toZ-ofZ}
 use Rattle.record.specs.Refusals.{inRange}
 use Rattle.record.proofs.AnswerLaws.{call-refused, call-answered}
@@ -41,32 +42,30 @@ returns-3 c =
     let outside = loaded-in-range (s .args .start) (s .fits .start .sfits) (b .before .in-range .ensures) (not-true _ (b .if3 .taken)) in
     call-refused _ _ _ 3 0 (omega arith) (start-outside _ _ _ (omega arith) (omega arith) outside) (c .refused-count3 .ensures)
 
--- what the test of the start tells
-start-inside : (c : tie.Else3) → inRange (c .before .before .before .before .args .start) ≡ true
-start-inside c =
-    let s = c .before .before .before .before in
-    loaded-in-range (s .args .start) (s .fits .start .sfits) (c .before .in-range .ensures) (not-false _ (c .if3 .left))
+-- the start as the code reads it is the start, and its test tells
+start-read : (c : tie.Else3) → let x = c .before .before .before .before .args .start in toZ w64 (ofZ w64 x) ≡ x
+start-read c = toZ-ofZ {w = w64} (c .before .before .before .before .fits .start)
+
+start-inside : (c : tie.Else3) → inRange (toZ w64 (ofZ w64 (c .before .before .before .before .args .start))) ≡ true
+start-inside c = sym (c .before .in-range .ensures) ∙ not-false _ (c .if3 .left)
 
 first-leaving-requires : tie.Need-first-leaving-requires
-first-leaving-requires c κs =
-    rw (toZ-ofZ {w = w64} (c .before .before .before .before .fits .start)) (sample-bounded _ (start-inside c))
+first-leaving-requires c κs = sample-bounded _ (start-inside c)
 
 refused-count-requires-4 : tie.Need-refused-count-requires-4
 refused-count-requires-4 c κs = search needs
 
 returns-4 : tie.Need-returns-4
 returns-4 c =
-    let b = c .before .before in
-    let read = toZ-ofZ {w = w64} (b .before .before .before .before .before .fits .start) in
-    let first = rw read at (b .first-leaving .ensures) in
-    call-refused _ _ _ 3 _ (omega arith) (reading-leaves _ _ _ (omega arith) (omega arith) (start-inside (b .before)) _ (omega arith) first)
-    (c .refused-count4 .ensures)
+    let tested : tie.Else3 = search c in
+    rw (← start-read tested)
+    (call-refused _ _ _ 3 _ (omega arith)
+    (reading-leaves _ _ _ (omega arith) (omega arith) (start-inside tested) _ (omega arith) (omega arith)) (c .refused-count4 .ensures))
 
 write-phases-requires : tie.Need-write-phases-requires
 write-phases-requires c κs =
-    let b = c .before .before in
-    let read = toZ-ofZ {w = w64} (b .before .before .before .before .before .fits .start) in
-    (rw read (sample-bounded _ (start-inside (b .before))), no-reading-leaves _ _ (omega arith), omega arith)
+    let tested : tie.Else3 = search c in
+    (omega (arith, sample-bounded _ (start-inside tested)), no-reading-leaves _ _ (omega arith), omega arith)
 
 add-t15 : tie.Need-add-t15
 add-t15 c = search needs
@@ -76,11 +75,10 @@ same-length c = search needs
 
 returns-5 : tie.Need-returns-5
 returns-5 c =
-    let b = c .before .before .before .before in
-    let read = toZ-ofZ {w = w64} (b .before .before .before .before .before .fits .start) in
-    let first = rw read at (b .first-leaving .ensures) in
-    call-answered _ _ _ (phases-unrefused _ _ _ (omega arith) (omega arith) (start-inside (b .before)) (no-reading-leaves _ _ (omega (arith, first))))
-    (rw read at (c .before .write-phases .ensures))
+    let tested : tie.Else3 = search c in
+    rw (← start-read tested)
+    (call-answered _ _ _
+    (phases-unrefused _ _ _ (omega arith) (omega arith) (start-inside tested) (no-reading-leaves _ _ (omega arith))) (c .before .write-phases .ensures))
 
 pub phase-from-start-spec : {M : Type 1} → statement M
 phase-from-start-spec =
