@@ -15,6 +15,8 @@ use Rattle.ploegelster.proofs.published.plg_time_deviation.Reads as plg
 use Rattle.ploegelster.proofs.published.plg_time_deviation.Kinds as plg-time-deviation-kinds
 use Rattle.ploegelster.proofs.phases.plg_phase_from_frequency.Reads as plg-phase-from-frequency
 use Rattle.ploegelster.proofs.phases.plg_phase_from_frequency.Kinds as plg-phase-from-frequency-kinds
+use Rattle.ploegelster.proofs.phases.plg_phase_from_start.Reads as plg-phase-from-start
+use Rattle.ploegelster.proofs.phases.plg_phase_from_start.Kinds as plg-phase-from-start-kinds
 use Rattle.ploegelster.proofs.phases.plg_frequency_from_phase.Reads as plg-frequency-from-phase
 use Rattle.ploegelster.proofs.phases.plg_frequency_from_phase.Kinds as plg-frequency-from-phase-kinds
 use Rattle.ploegelster.proofs.phases.plg_drift_figure.Reads as plg-drift-figure
@@ -70,6 +72,9 @@ plg-time-deviation-single κs args z z′ w w′ first second = (first ∙ sym s
 
 pub plg-phase-from-frequency-single : Single 2 plg-phase-from-frequency-kinds.ps plg-phase-from-frequency-kinds.r plg-phase-from-frequency.Post
 plg-phase-from-frequency-single κs args z z′ w w′ first second = (first .0 ∙ sym (second .0), λ i. (tt, ((first .1 ∙ sym (second .1)) i, tt)))
+
+pub plg-phase-from-start-single : Single 2 plg-phase-from-start-kinds.ps plg-phase-from-start-kinds.r plg-phase-from-start.Post
+plg-phase-from-start-single κs args z z′ w w′ first second = (first .0 ∙ sym (second .0), λ i. (tt, (tt, ((first .1 ∙ sym (second .1)) i, tt))))
 
 pub plg-frequency-from-phase-single : Single 2 plg-frequency-from-phase-kinds.ps plg-frequency-from-phase-kinds.r plg-frequency-from-phase.Post
 plg-frequency-from-phase-single κs args z z′ w w′ first second = (first .0 ∙ sym (second .0), λ i. (tt, ((first .1 ∙ sym (second .1)) i, tt)))

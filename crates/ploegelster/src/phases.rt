@@ -5,7 +5,7 @@ ghost use mathlib.Core.Path.{_≡_};
 ghost use Prim.Native.Nat.{_+_, _-_};
 ghost use lib.ListN.{length};
 ghost use Rattle.record.specs.Answers.{countAnswer, bufferLeft};
-ghost use Rattle.frequency.specs.Frequency.{phases, phaseRefusal, differences, frequencyRefusal};
+ghost use Rattle.frequency.specs.Frequency.{phasesFrom, phases, phaseRefusal, startRefusal, differences, frequencyRefusal};
 ghost use Rattle.drift.specs.Drift.{driftAnswer, withoutDrift, removalRefusal};
 
 // Phases from readings.
@@ -15,6 +15,15 @@ pub extern "C" fn plg_phase_from_frequency(readings: &[i64], buffer: &mut [i64])
     ensures { λ r. ⌜ now (buffer .exit) ≡ bufferLeft (phaseRefusal (now (readings .entry)) (length (now (buffer .entry)))) (phases (now (readings .entry))) (now (buffer .entry)) ⌝ }
 {
     frequency::phase_from_frequency(readings, buffer)
+}
+
+// Phases from readings, from a start on.
+#[no_mangle]
+pub extern "C" fn plg_phase_from_start(start: i64, readings: &[i64], buffer: &mut [i64]) -> CountAnswer
+    ensures { λ r. ⌜ r ≡ countAnswer (startRefusal start (now (readings .entry)) (length (now (buffer .entry)))) (length (now (readings .entry)) + 1) ⌝ }
+    ensures { λ r. ⌜ now (buffer .exit) ≡ bufferLeft (startRefusal start (now (readings .entry)) (length (now (buffer .entry)))) (phasesFrom start (now (readings .entry))) (now (buffer .entry)) ⌝ }
+{
+    frequency::phase_from_start(start, readings, buffer)
 }
 
 // Readings from phases.
