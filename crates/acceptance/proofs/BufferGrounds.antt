@@ -1,54 +1,79 @@
 -- The refusals of phase and frequency and of drift agree with their tables of grounds.
-use mathlib.Core.Path.{_≡_, refl, sym, ap, _∙_}
+use mathlib.Core.Path.{_≡_, refl, sym, ap, subst, _∙_}
 use mathlib.Core.List.{List}
-use Prim.Native.Nat.{ℕ, _+_, _-_, _<_}
+use Prim.Native.Nat.{ℕ, _+_, _-_, _^_, _<_}
 use native.Mathlib.Omega.{arith}
-use borrow.Author.Tests.{ltb-true, ltb-false, eqb-true, eqb-false}
-use lib.IntN.{ℤ}
+use borrow.Author.Tests.{ltb-true, ltb-false, not-true, not-false, eqb-true, eqb-false}
+use lib.IntN.{ℤ, pos, natAbs, _+ℤ_, +ℤ-idl}
 use lib.ListN.{length}
 use Rattle.laws.specs.Lists.{at}
 use Rattle.laws.specs.Sums.{sumℤ}
-use Rattle.laws.proofs.SumLaws.{sumℤ-step}
 use Rattle.record.specs.Answers.{countAnswer}
 use Rattle.record.specs.declared.Refusal.{Refusal}
 use Rattle.record.specs.declared.CountAnswer.{CountAnswer}
-use Rattle.frequency.specs.Frequency.{firstLeaving, phaseRefusal, frequencyRefusal}
-use Rattle.frequency.proofs.FrequencyLaws.{later, later-length, later-is, readings-too-many, no-room-for-phases, reading-leaves, samples-too-many, no-sample, no-room-for-differences, range-decides}
+use Rattle.record.proofs.RangeLaws.{sample-bounded, bounded-sample}
+use Rattle.frequency.specs.Frequency.{firstLeaving, phaseRefusal, startRefusal, frequencyRefusal}
+use Rattle.frequency.proofs.FrequencyLaws.{running, later, later-length, later-is, readings-too-many, no-room-for-phases, start-outside, reading-leaves, refusal-from-nought, samples-too-many, no-sample, no-room-for-differences, range-decides}
 use Rattle.drift.specs.Drift.{withoutDrift, driftRefusal, driftAnswer, removalRefusal}
 use Rattle.drift.specs.declared.DriftAnswer.{DriftAnswer}
 use Rattle.drift.proofs.DriftLaws.{drift-too-many, drift-too-few, drift-by-range, without-drift-length, removal-too-many, removal-too-few, removal-no-room, removal-sample-outside, removal-result-outside}
 use Rattle.acceptance.specs.Grounds
-use Rattle.acceptance.specs.Grounds.{Grounded, Between, OfPhases, OfDifferences, OfDrift, OfRemoval}
-use Rattle.acceptance.proofs.Grounding.{Decided, Stands, Agrees, decide, decide-last, decide-after, grounded-answer}
-use Rattle.acceptance.proofs.RecordGrounds.{first-outside, outside-is, range-stands, range-decided, none-outside-none, none-none-outside}
+use Rattle.acceptance.specs.Grounds.{Grounded, Between, First, OfPhases, OfPhasesFrom, OfDifferences, OfDrift, OfRemoval}
+use Rattle.acceptance.proofs.Grounding.{Decided, Stands, Agrees, decide, decide-last, decide-after, decided-by, grounded-answer}
+use Rattle.acceptance.proofs.RecordGrounds.{outside-fails, failing-outside, first-outside, outside-is, range-stands, range-decided, none-outside-none, none-none-outside}
 
--- ---- phase from frequency: 2, 6, 3
+-- ---- phase from a start: 2, 6, 3 of the start, 3 of a reading
 
-module _ (ys : List ℤ) (room : ℕ) where
-  abbrev phase : ℕ → ℤ
-  phase k = sumℤ (k + 1) (at ys)
-
-  phase-is : (k : ℕ) → k < length ys → at (later ys) k ≡ phase k
-  phase-is k inside = later-is ys k inside ∙ sym (sumℤ-step k (at ys))
-
-  phases-stand : {n p : ℕ} → OfPhases ys room n p → Stands n p (phaseRefusal ys room)
+module _ (start : ℤ) (ys : List ℤ) (room : ℕ) where
+  phases-from-stand : {n p : ℕ} → OfPhasesFrom start ys room n p → Stands n p (startRefusal start ys room)
   unfolding firstLeaving
-  phases-stand (Grounds.many h) = (λ e. omega arith, readings-too-many ys room h)
-  phases-stand (Grounds.no-room few h) = (λ e. omega arith, no-room-for-phases ys room few h)
-  phases-stand {p = i} (Grounds.leaves few enough first) =
-      (λ e. omega arith, reading-leaves ys room few enough i (first .inside) (sym (outside-is (later ys) (later-length ys) phase phase-is first)))
+  phases-from-stand (Grounds.many h) = (λ e. omega arith, readings-too-many start ys room h)
+  phases-from-stand (Grounds.no-room few h) = (λ e. omega arith, no-room-for-phases start ys room few h)
+  phases-from-stand (Grounds.outside few enough h) = (λ e. omega arith, start-outside start ys room few enough (outside-fails start h))
+  phases-from-stand {p = i} (Grounds.leaves few enough near first) =
+      let there = outside-is (later start ys) (later-length start ys) (λ k. running start ys (k + 1)) (later-is start ys) first in
+      (λ e. omega arith, reading-leaves start ys room few enough (bounded-sample start near) i (first .inside) (sym there))
 
-  phases-decided : Decided (OfPhases ys room) (phaseRefusal ys room)
-  unfolding phaseRefusal firstLeaving
-  phases-decided =
+  phases-from-decided : Decided (OfPhasesFrom start ys room) (startRefusal start ys room)
+  unfolding startRefusal firstLeaving
+  phases-from-decided =
       decide _ 2 0 (omega arith) (λ t. Grounds.many (ltb-true 32767 (length ys) t)) _
       (λ f. let few = ltb-false 32767 (length ys) f in
       decide _ 6 0 (omega arith) (λ t. Grounds.no-room few (ltb-true room (length ys + 1) t)) _
-      (λ g. decide-last _ 3 _ (omega arith)
-      (λ t. Grounds.leaves few (ltb-false room (length ys + 1) g) (first-outside (later ys) (later-length ys) phase phase-is t))))
+      (λ g. let enough = ltb-false room (length ys + 1) g in
+      decide _ 3 0 (omega arith) (λ t. Grounds.outside few enough (failing-outside start (not-true _ t))) _
+      (λ h. decide-last _ 3 _ (omega arith)
+      (λ t. Grounds.leaves few enough (sample-bounded start (not-false _ h))
+      (first-outside (later start ys) (later-length start ys) (λ k. running start ys (k + 1)) (later-is start ys) t)))))
+
+  pub phases-from-agree : Agrees (OfPhasesFrom start ys room) (startRefusal start ys room)
+  phases-from-agree = record { stands = phases-from-stand; decided = phases-from-decided }
+
+-- ---- phase from frequency: the same from 0, which is in range
+
+module _ (ys : List ℤ) (room : ℕ) where
+  same-phases : _≡_ {A = ℕ → ℤ} (λ k. pos 0 +ℤ sumℤ (k + 1) (at ys)) (λ k. sumℤ (k + 1) (at ys))
+  same-phases i k = +ℤ-idl (sumℤ (k + 1) (at ys)) i
+
+  abbrev Leaves : ℕ → (ℕ → ℤ) → Type 0
+  Leaves i phase = First (length ys) (λ k. 2 ^ 40 < natAbs (phase k)) i
+
+  row-from-nought : {n p : ℕ} → OfPhases ys room n p → OfPhasesFrom (pos 0) ys room n p
+  row-from-nought (Grounds.many h) = Grounds.many h
+  row-from-nought (Grounds.no-room few h) = Grounds.no-room few h
+  row-from-nought {p = i} (Grounds.leaves few enough first) = Grounds.leaves few enough (omega arith) (subst (Leaves i) (sym same-phases) first)
+
+  nought-in-row : {n p : ℕ} → OfPhasesFrom (pos 0) ys room n p → OfPhases ys room n p
+  nought-in-row (Grounds.many h) = Grounds.many h
+  nought-in-row (Grounds.no-room few h) = Grounds.no-room few h
+  nought-in-row (Grounds.outside few enough h) = absurd (omega arith)
+  nought-in-row {p = i} (Grounds.leaves few enough near first) = Grounds.leaves few enough (subst (Leaves i) same-phases first)
 
   pub phases-agree : Agrees (OfPhases ys room) (phaseRefusal ys room)
-  phases-agree = record { stands = phases-stand; decided = phases-decided }
+  phases-agree =
+      let agree = phases-from-agree (pos 0) ys room in
+      rw (← refusal-from-nought ys room)
+      (record { stands = λ row. agree .stands (row-from-nought row); decided = decided-by (λ n p. nought-in-row) (agree .decided) })
 
 -- ---- frequency from phase: 2, 1, 6, 3
 

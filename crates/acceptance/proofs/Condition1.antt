@@ -60,10 +60,13 @@ use Rattle.variances.proofs.allan_deviation.Reads as allan-deviation
 use Rattle.variances.proofs.allan_deviation.Kinds as allan-deviation-kinds
 use Rattle.variances.proofs.time_deviation.Reads as time-deviation
 use Rattle.variances.proofs.time_deviation.Kinds as time-deviation-kinds
-use Rattle.frequency.proofs.Unique.{phase-from-frequency-single, frequency-from-phase-single}
-use Rattle.frequency.proofs.FrequencyLaws.{phases-length, differences-length}
+use Rattle.frequency.specs.Frequency.{phases}
+use Rattle.frequency.proofs.Unique.{phase-from-frequency-single, phase-from-start-single, frequency-from-phase-single}
+use Rattle.frequency.proofs.FrequencyLaws.{phases-from-length, differences-length}
 use Rattle.frequency.proofs.phase_from_frequency.Reads as phase-from-frequency
 use Rattle.frequency.proofs.phase_from_frequency.Kinds as phase-from-frequency-kinds
+use Rattle.frequency.proofs.phase_from_start.Reads as phase-from-start
+use Rattle.frequency.proofs.phase_from_start.Kinds as phase-from-start-kinds
 use Rattle.frequency.proofs.frequency_from_phase.Reads as frequency-from-phase
 use Rattle.frequency.proofs.frequency_from_phase.Kinds as frequency-from-phase-kinds
 use Rattle.drift.proofs.Unique.{drift-figure-single, remove-drift-single}
@@ -114,6 +117,7 @@ use Rattle.ploegelster.proofs.Told.{type-by-alpha, alpha-of-none}
 use Rattle.ploegelster.proofs.published.plg_allan_sum.Reads as plg-allan-sum
 use Rattle.ploegelster.proofs.published.plg_modified_sum.Reads as plg-modified-sum
 use Rattle.ploegelster.proofs.phases.plg_phase_from_frequency.Reads as plg-phase-from-frequency
+use Rattle.ploegelster.proofs.phases.plg_phase_from_start.Reads as plg-phase-from-start
 use Rattle.ploegelster.proofs.phases.plg_frequency_from_phase.Reads as plg-frequency-from-phase
 use Rattle.ploegelster.proofs.phases.plg_drift_figure.Reads as plg-drift-figure
 use Rattle.ploegelster.proofs.phases.plg_remove_drift.Reads as plg-remove-drift
@@ -233,7 +237,16 @@ phase-from-frequency-settled = (phase-from-frequency-single, λ κs args z w is.
 -- the answer's count is the length of the output, nought where the call is refused
 pub phase-from-frequency-past : Always 2 phase-from-frequency-kinds.ps phase-from-frequency-kinds.r phase-from-frequency.Post
     (λ κs args z w. let buffer = now (args .1 .0) in let left = w .1 .0 in (i : ℕ) (e : ℤ) → z .count ≤ i → getD left i e ≡ getD buffer i e)
-phase-from-frequency-past κs args z w is = rw (is .0, is .1) (past-the-count _ _ _ _ (phases-length _))
+unfolding phases
+phase-from-frequency-past κs args z w is = rw (is .0, is .1) (past-the-count _ _ _ _ (phases-from-length _ _))
+
+pub phase-from-start-settled : Settled 2 phase-from-start-kinds.ps phase-from-start-kinds.r phase-from-start.Post
+    (λ κs args z w. let buffer = now (args .1 .1 .0) in let left = w .1 .1 .0 in Refused (z .number) → (z .count ≡ 0) × (left ≡ buffer))
+phase-from-start-settled = (phase-from-start-single, λ κs args z w is. rw (is .0, is .1) (count-noughts _ _ _ _))
+
+pub phase-from-start-past : Always 2 phase-from-start-kinds.ps phase-from-start-kinds.r phase-from-start.Post
+    (λ κs args z w. let buffer = now (args .1 .1 .0) in let left = w .1 .1 .0 in (i : ℕ) (e : ℤ) → z .count ≤ i → getD left i e ≡ getD buffer i e)
+phase-from-start-past κs args z w is = rw (is .0, is .1) (past-the-count _ _ _ _ (phases-from-length _ _))
 
 pub frequency-from-phase-settled : Settled 2 frequency-from-phase-kinds.ps frequency-from-phase-kinds.r frequency-from-phase.Post
     (λ κs args z w. let buffer = now (args .1 .0) in let left = w .1 .0 in Refused (z .number) → (z .count ≡ 0) × (left ≡ buffer))
@@ -371,6 +384,9 @@ plg-time-deviation-is = refl
 
 pub plg-phase-from-frequency-is : plg-phase-from-frequency.Post ≡ phase-from-frequency.Post
 plg-phase-from-frequency-is = refl
+
+pub plg-phase-from-start-is : plg-phase-from-start.Post ≡ phase-from-start.Post
+plg-phase-from-start-is = refl
 
 pub plg-frequency-from-phase-is : plg-frequency-from-phase.Post ≡ frequency-from-phase.Post
 plg-frequency-from-phase-is = refl

@@ -1,7 +1,7 @@
 -- Condition 2: the published figure, exactly. Each theorem speaks of every result that the function's own contract allows (Always,
 -- crates/laws/specs/Single.antt) where the call is answered, which Grounds.antt tells exactly; what is promised of a result stands in
 -- specs/Promises.antt. The exported functions have the same contracts (Condition1.antt, NAME-is), or tell the same answers in numbers (NAME-tells).
-use mathlib.Core.Path.{_≡_, refl, _∙_}
+use mathlib.Core.Path.{_≡_, refl, sym, _∙_}
 use mathlib.Core.Bool.{Bool}
 use mathlib.Core.List.{List, [], _∷_}
 use Prim.Native.Nat.{ℕ, _+_, _-_, _*_, _/_, _%_, _^_, _≤_, _<_}
@@ -34,9 +34,12 @@ use Rattle.variances.proofs.allan_deviation.Reads as allan-deviation
 use Rattle.variances.proofs.allan_deviation.Kinds as allan-deviation-kinds
 use Rattle.variances.proofs.time_deviation.Reads as time-deviation
 use Rattle.variances.proofs.time_deviation.Kinds as time-deviation-kinds
-use Rattle.frequency.specs.Frequency.{differences}
+use Rattle.frequency.specs.Frequency.{phasesFrom, phases, differences}
+use Rattle.frequency.proofs.FrequencyLaws.{refusal-from-nought, range-decides}
 use Rattle.frequency.proofs.phase_from_frequency.Reads as phase-from-frequency
 use Rattle.frequency.proofs.phase_from_frequency.Kinds as phase-from-frequency-kinds
+use Rattle.frequency.proofs.phase_from_start.Reads as phase-from-start
+use Rattle.frequency.proofs.phase_from_start.Kinds as phase-from-start-kinds
 use Rattle.frequency.proofs.frequency_from_phase.Reads as frequency-from-phase
 use Rattle.frequency.proofs.frequency_from_phase.Kinds as frequency-from-phase-kinds
 use Rattle.drift.specs.Drift.{withoutDrift}
@@ -84,17 +87,17 @@ use Rattle.phr.proofs.write_file.Reads as write-file
 use Rattle.phr.proofs.write_file.Kinds as write-file-kinds
 use Rattle.acceptance.specs.Figures.{sumIs, fractionIs, squares}
 use Rattle.acceptance.specs.Grounds
-use Rattle.acceptance.specs.Promises.{SumOf, PartsOf, Changed, FractionOf, BackAndForth, DotOf, ToldAs, TypeByTable, NoiseOf, HalfOf, BarsOf, DriftRemoved, ConstantDrift, ReadsBack}
+use Rattle.acceptance.specs.Promises.{SumOf, PartsOf, Changed, FractionOf, BackAndForth, GivenBack, DotOf, ToldAs, TypeByTable, NoiseOf, HalfOf, BarsOf, DriftRemoved, ConstantDrift, ReadsBack}
 use Rattle.acceptance.proofs.Grounding.{answered-none}
 use Rattle.acceptance.proofs.RecordGrounds.{record-agrees, multiple-agrees}
 use Rattle.acceptance.proofs.FigureGrounds.{fraction-agrees, deviation-agrees, dotted-none}
-use Rattle.acceptance.proofs.BufferGrounds.{phases-agree, differences-agree, drift-agrees, removal-agrees}
+use Rattle.acceptance.proofs.BufferGrounds.{phases-from-agree, phases-agree, differences-agree, drift-agrees, removal-agrees}
 use Rattle.acceptance.proofs.ReadingGrounds.{readings-agree}
 use Rattle.acceptance.proofs.TypeGrounds.{type-agrees, bars-agree, alpha-within}
 use Rattle.acceptance.proofs.RecordTypeGrounds.{record-type-agrees}
 use Rattle.acceptance.proofs.FileGrounds.{writing-agrees, reading-agrees}
-use Rattle.acceptance.proofs.Grounds.{allan-sum-grounds, modified-sum-grounds, allan-fraction-grounds, time-fraction-grounds, allan-deviation-grounds, time-deviation-grounds, phase-from-frequency-grounds, frequency-from-phase-grounds, drift-figure-grounds, remove-drift-grounds, float-sums-grounds, drawn-number-grounds, allan-dot-grounds, time-dot-grounds, noise-type-grounds, noise-of-record-grounds, plg-noise-type-grounds, plg-noise-of-record-grounds, bars-grounds, plg-bars-grounds, read-file-grounds, write-file-grounds}
-use Rattle.acceptance.proofs.PromiseLaws.{allan-sum-of, modified-sum-of, phases-of, differences-of, differences-left, back-and-forth, square-of-half, drift-of, divisor-some, result-of, drift-removed, one-result, same-slope, constant-slope, line-left, float-sums-of, one-nearest, unchanged-samples-of, whole-samples-of, reads-files-alone, reads-every-file, count-of, output-left, file-left, one-value-unrefused, written-proper, reads-back, drawn-of, dot-told, allan-dot-of, time-dot-of, allan-fraction-of, time-fraction-of, allan-deviation-of, time-deviation-of, allan-deviation-of-record, time-deviation-of-record, type-of, noise-of, bars-of, half-below-deviation, low-above-nought}
+use Rattle.acceptance.proofs.Grounds.{allan-sum-grounds, modified-sum-grounds, allan-fraction-grounds, time-fraction-grounds, allan-deviation-grounds, time-deviation-grounds, phase-from-frequency-grounds, phase-from-start-grounds, frequency-from-phase-grounds, drift-figure-grounds, remove-drift-grounds, float-sums-grounds, drawn-number-grounds, allan-dot-grounds, time-dot-grounds, noise-type-grounds, noise-of-record-grounds, plg-noise-type-grounds, plg-noise-of-record-grounds, bars-grounds, plg-bars-grounds, read-file-grounds, write-file-grounds}
+use Rattle.acceptance.proofs.PromiseLaws.{allan-sum-of, modified-sum-of, phases-from-of, phases-left, phases-of, differences-of, differences-left, back-and-forth, record-given-back, readings-given-back, square-of-half, drift-of, divisor-some, result-of, drift-removed, one-result, same-slope, constant-slope, line-left, float-sums-of, one-nearest, unchanged-samples-of, whole-samples-of, reads-files-alone, reads-every-file, count-of, output-left, file-left, one-value-unrefused, written-proper, reads-back, drawn-of, dot-told, allan-dot-of, time-dot-of, allan-fraction-of, time-fraction-of, allan-deviation-of, time-deviation-of, allan-deviation-of-record, time-deviation-of-record, type-of, noise-of, bars-of, half-below-deviation, low-above-nought}
 use Rattle.acceptance.proofs.Figures.{starred-figures}
 
 -- ---- the published sums: x the record, N its length, m the factor
@@ -166,6 +169,23 @@ phases-published κs args z w is answered =
     let nothing = answered-none (phases-agree _ _) (phase-from-frequency-grounds κs args z w is) answered in
     rw (is .0, is .1) (phases-of (now (args .0)) (now (args .1 .0)) nothing)
 
+-- From a start the same, of which the first is the start.
+pub phases-from-start-published : Always 2 phase-from-start-kinds.ps phase-from-start-kinds.r phase-from-start.Post
+    (λ κs args z w. let start = args .0 in let ys = now (args .1 .0) in let left = w .1 .1 .0 in
+    z .number ≡ 0 → (z .count ≡ length ys + 1) × ((i : ℕ) → i ≤ length ys → at left i ≡ start +ℤ sumℤ i (at ys)))
+phases-from-start-published κs args z w is answered =
+    let nothing = answered-none (phases-from-agree _ _ _) (phase-from-start-grounds κs args z w is) answered in
+    rw (is .0, is .1) (phases-from-of (args .0) (now (args .1 .0)) (now (args .1 .1 .0)) nothing)
+
+-- From the start 0 the two entries answer alike and leave equal buffers alike, refused or not.
+pub phase-from-frequency-is-from-nought : Always 2 phase-from-frequency-kinds.ps phase-from-frequency-kinds.r phase-from-frequency.Post
+    (λ κs args z w. let ys = now (args .0) in let buffer = now (args .1 .0) in
+    Always 2 phase-from-start-kinds.ps phase-from-start-kinds.r phase-from-start.Post (λ κs′ args′ z′ w′.
+    args′ .0 ≡ pos 0 → now (args′ .1 .0) ≡ ys → now (args′ .1 .1 .0) ≡ buffer → (z′ ≡ z) × (w′ .1 .1 .0 ≡ w .1 .0)))
+unfolding phases
+phase-from-frequency-is-from-nought κs args z w is κs′ args′ z′ w′ is′ nought same-readings same-buffer =
+    rw (is .0, is .1, is′ .0, is′ .1, nought, same-readings, same-buffer, refusal-from-nought) (refl, refl)
+
 -- N samples give N-1 differences.
 pub differences-published : Always 2 frequency-from-phase-kinds.ps frequency-from-phase-kinds.r frequency-from-phase.Post
     (λ κs args z w. let xs = now (args .0) in let left = w .1 .0 in
@@ -186,6 +206,34 @@ phase-to-frequency-to-phase κs args z w is answered κs′ args′ z′ w′ is
     let few : 32768 < length (now (args .0)) → ⊥ = λ h. grounds .answered answered .1 2 0 (Grounds.many h) in
     let written : now (args′ .0) ≡ differences (now (args .0)) = read ∙ rw (is .0, is .1) (differences-left (now (args .0)) (now (args .1 .0)) nothing) in
     rw (is′ .0, is′ .1, written) (back-and-forth (now (args .0)) (omega arith) (omega arith) (now (args′ .1 .0)) room)
+
+-- With the first sample as the start the second call is answered, and gives the record back whole, whatever record it is (K4).
+pub phase-to-frequency-to-record : Always 2 frequency-from-phase-kinds.ps frequency-from-phase-kinds.r frequency-from-phase.Post
+    (λ κs args z w. let xs = now (args .0) in let left = w .1 .0 in z .number ≡ 0 → Always 2 phase-from-start-kinds.ps phase-from-start-kinds.r phase-from-start.Post
+    (λ κs′ args′ z′ w′. let start = args′ .0 in let ys = now (args′ .1 .0) in let buffer = now (args′ .1 .1 .0) in
+    start ≡ at xs 0 → ys ≡ take (z .count) left → length xs ≤ length buffer → GivenBack xs (w′ .1 .1 .0) z′))
+phase-to-frequency-to-record κs args z w is answered κs′ args′ z′ w′ is′ first read room =
+    let xs = now (args .0) in
+    let rowless = frequency-from-phase-grounds κs args z w is .answered answered .1 in
+    let nothing = answered-none (differences-agree _ _) (frequency-from-phase-grounds κs args z w is) answered in
+    let some : length xs ≡ 0 → ⊥ = λ e. rowless 1 0 (Grounds.no-sample e) in
+    let few : 32768 < length xs → ⊥ = λ h. rowless 2 0 (Grounds.many h) in
+    let enough : length (now (args .1 .0)) < length xs - 1 → ⊥ = λ h. rowless 6 0 (Grounds.no-room (omega arith, omega arith) h) in
+    let in-range = sym (range-decides xs _ (omega arith) some (omega arith)) ∙ nothing in
+    let written : now (args′ .1 .0) ≡ differences xs = read ∙ rw (is .0, is .1) (differences-left xs (now (args .1 .0)) nothing) in
+    rw (is′ .0, is′ .1, first, written) (record-given-back xs (omega arith) (omega arith) (now (args′ .1 .1 .0)) room in-range)
+
+-- Frequency, to phase from any start, to frequency: what the first call wrote is read by the second, which is answered and gives the readings back.
+pub frequency-to-phase-to-frequency-from-start : Always 2 phase-from-start-kinds.ps phase-from-start-kinds.r phase-from-start.Post
+    (λ κs args z w. let ys = now (args .1 .0) in let left = w .1 .1 .0 in z .number ≡ 0 → Always 2 frequency-from-phase-kinds.ps frequency-from-phase-kinds.r frequency-from-phase.Post
+    (λ κs′ args′ z′ w′. let xs = now (args′ .0) in let buffer = now (args′ .1 .0) in
+    xs ≡ take (z .count) left → length ys ≤ length buffer → GivenBack ys (w′ .1 .0) z′))
+frequency-to-phase-to-frequency-from-start κs args z w is answered κs′ args′ z′ w′ is′ read room =
+    let start = args .0 in
+    let ys = now (args .1 .0) in
+    let nothing = answered-none (phases-from-agree _ _ _) (phase-from-start-grounds κs args z w is) answered in
+    let written : now (args′ .0) ≡ phasesFrom start ys = read ∙ rw (is .0, is .1) (phases-left start ys (now (args .1 .1 .0)) nothing) in
+    rw (is′ .0, is′ .1, written) (readings-given-back start ys _ nothing (now (args′ .1 .0)) room)
 
 -- ---- float readings
 

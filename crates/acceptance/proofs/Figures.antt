@@ -11,7 +11,7 @@ use Rattle.laws.specs.Greatest.{bitByBit}
 use Rattle.wide.specs.Wide.{value}
 use Rattle.record.specs.Refusals.{inRange, rangeRefusal, sizeRefusal, recordRefusal}
 use Rattle.record.specs.Answers.{countAnswer, bufferLeft}
-use Rattle.frequency.specs.Frequency.{phases, firstLeaving, phaseRefusal}
+use Rattle.frequency.specs.Frequency.{phasesFrom, phases, firstLeaving, phaseRefusal, startRefusal}
 use Rattle.drift.specs.Drift.{driftH, driftP, driftR, driftRefusal, driftAnswer, floored, withoutDrift, removalRefusal}
 use Rattle.sums.specs.Published.{difference, allanCount, allanSum, allanDenominator, windowSum, modifiedCount, modifiedSum, timeDenominator}
 use Rattle.variances.specs.Fractions.{euclid, gcd}
@@ -36,6 +36,8 @@ use Rattle.variances.proofs.allan_deviation.Reads as allan-deviation
 use Rattle.variances.proofs.allan_deviation.Kinds as allan-deviation-kinds
 use Rattle.frequency.proofs.phase_from_frequency.Reads as phase-from-frequency
 use Rattle.frequency.proofs.phase_from_frequency.Kinds as phase-from-frequency-kinds
+use Rattle.frequency.proofs.phase_from_start.Reads as phase-from-start
+use Rattle.frequency.proofs.phase_from_start.Kinds as phase-from-start-kinds
 use Rattle.drift.proofs.drift_figure.Reads as drift-figure
 use Rattle.drift.proofs.drift_figure.Kinds as drift-figure-kinds
 use Rattle.drift.proofs.remove_drift.Reads as remove-drift
@@ -49,7 +51,7 @@ use Rattle.phr.proofs.write_file.Kinds as write-file-kinds
 use Rattle.acceptance.specs.Figures.{Starred}
 
 pub starred-figures : Starred
-unfolding sum sumℤ tabulate firstFailing bitByBit inRange rangeRefusal sizeRefusal recordRefusal countAnswer bufferLeft phases firstLeaving phaseRefusal driftH driftP driftR driftRefusal driftAnswer floored withoutDrift removalRefusal difference allanCount allanSum allanDenominator windowSum modifiedCount modifiedSum timeDenominator euclid gcd deviation sumAnswer allanSumAnswer modifiedSumAnswer figureRefusal fractionAnswer allanFractionAnswer timeFractionAnswer deviationAnswer allanDeviationAnswer alphaOf kappaOf noiseOf noiseRefusal noiseAnswer toldAlpha typeAnswer barWidth barHalf barsRefusal barOf barsAnswer drawnNumber round lowFirst twosComplement valuesBytes header fileOf mostValues valueInRange writeRefusal
+unfolding sum sumℤ tabulate firstFailing bitByBit inRange rangeRefusal sizeRefusal recordRefusal countAnswer bufferLeft phasesFrom phases firstLeaving phaseRefusal startRefusal driftH driftP driftR driftRefusal driftAnswer floored withoutDrift removalRefusal difference allanCount allanSum allanDenominator windowSum modifiedCount modifiedSum timeDenominator euclid gcd deviation sumAnswer allanSumAnswer modifiedSumAnswer figureRefusal fractionAnswer allanFractionAnswer timeFractionAnswer deviationAnswer allanDeviationAnswer alphaOf kappaOf noiseOf noiseRefusal noiseAnswer toldAlpha typeAnswer barWidth barHalf barsRefusal barOf barsAnswer drawnNumber round lowFirst twosComplement valuesBytes header fileOf mostValues valueInRange writeRefusal
 starred-figures = record {
   squares-at-1 = (refl, refl);
   squares-deviation = refl;
@@ -64,6 +66,7 @@ starred-figures = record {
   spike-modified = (refl, refl);
   ends = refl;
   phased = (refl, refl);
+  phased-from = (refl, refl);
   squares-drift = (refl, (refl, refl));
   last-fallen-drift = (refl, (refl, refl));
   falling-drift = (refl, (refl, refl));
@@ -100,6 +103,11 @@ pub phase-from-frequency-computes : Always 2 phase-from-frequency-kinds.ps phase
     (λ κs args z w. let ys = now (args .0) in let buffer = now (args .1 .0) in let r = phaseRefusal ys (length buffer) in
     (z ≡ countAnswer r (length ys + 1)) × (w .1 .0 ≡ bufferLeft r (phases ys) buffer))
 phase-from-frequency-computes κs args z w is = is
+
+pub phase-from-start-computes : Always 2 phase-from-start-kinds.ps phase-from-start-kinds.r phase-from-start.Post
+    (λ κs args z w. let start = args .0 in let ys = now (args .1 .0) in let buffer = now (args .1 .1 .0) in let r = startRefusal start ys (length buffer) in
+    (z ≡ countAnswer r (length ys + 1)) × (w .1 .1 .0 ≡ bufferLeft r (phasesFrom start ys) buffer))
+phase-from-start-computes κs args z w is = is
 
 pub drift-figure-computes : Always 1 drift-figure-kinds.ps drift-figure-kinds.r drift-figure.Post
     (λ κs args z w. z ≡ driftAnswer (now (args .0)))

@@ -33,6 +33,8 @@ use Rattle.plot.proofs.dots.time_dot.Reads as time-dot
 use Rattle.plot.proofs.dots.time_dot.Kinds as time-dot-kinds
 use Rattle.frequency.proofs.phase_from_frequency.Reads as phase-from-frequency
 use Rattle.frequency.proofs.phase_from_frequency.Kinds as phase-from-frequency-kinds
+use Rattle.frequency.proofs.phase_from_start.Reads as phase-from-start
+use Rattle.frequency.proofs.phase_from_start.Kinds as phase-from-start-kinds
 use Rattle.frequency.proofs.frequency_from_phase.Reads as frequency-from-phase
 use Rattle.frequency.proofs.frequency_from_phase.Kinds as frequency-from-phase-kinds
 use Rattle.drift.proofs.drift_figure.Reads as drift-figure
@@ -71,11 +73,11 @@ use Rattle.ploegelster.proofs.drawing.plg_time_dot.Reads as plg-time-dot
 use Rattle.ploegelster.proofs.drawing.plg_time_dot.Kinds as plg-time-dot-kinds
 use Rattle.ploegelster.proofs.drawing.plg_bars.Reads as plg-bars
 use Rattle.ploegelster.proofs.drawing.plg_bars.Kinds as plg-bars-kinds
-use Rattle.acceptance.specs.Grounds.{Grounded, OfRange, OfSize, OfRecord, OfFraction, OfDeviation, OfDot, OfPhases, OfDifferences, OfDrift, OfRemoval, OfReadings, OfRecordType, OfDrawn, OfType, OfBars, OfStart, OfSample, OfReport, OfFile, OfWriting}
+use Rattle.acceptance.specs.Grounds.{Grounded, OfRange, OfSize, OfRecord, OfFraction, OfDeviation, OfDot, OfPhases, OfPhasesFrom, OfDifferences, OfDrift, OfRemoval, OfReadings, OfRecordType, OfDrawn, OfType, OfBars, OfStart, OfSample, OfReport, OfFile, OfWriting}
 use Rattle.acceptance.proofs.Grounding.{refusal-grounded}
 use Rattle.acceptance.proofs.RecordGrounds.{size-agrees, range-agrees, record-agrees, multiple-agrees, sum-grounded}
 use Rattle.acceptance.proofs.FigureGrounds.{fraction-agrees, deviation-agrees, fraction-grounded, deviation-grounded, dot-grounded}
-use Rattle.acceptance.proofs.BufferGrounds.{phases-agree, differences-agree, removal-agrees, count-grounded, drift-grounded}
+use Rattle.acceptance.proofs.BufferGrounds.{phases-from-agree, phases-agree, differences-agree, removal-agrees, count-grounded, drift-grounded}
 use Rattle.acceptance.proofs.ReadingGrounds.{readings-grounded}
 use Rattle.acceptance.proofs.RecordTypeGrounds.{record-type-agrees}
 use Rattle.acceptance.proofs.TypeGrounds.{drawn-grounded, type-agrees, type-grounded, bars-grounded, alpha-bars-grounded}
@@ -139,6 +141,11 @@ time-deviation-grounds κs args z w is = rw is (deviation-grounded (deviation-ag
 pub phase-from-frequency-grounds : Always 2 phase-from-frequency-kinds.ps phase-from-frequency-kinds.r phase-from-frequency.Post
     (λ κs args z w. let ys = now (args .0) in let buffer = now (args .1 .0) in Grounded (OfPhases ys (length buffer)) (z .number) (z .place))
 phase-from-frequency-grounds κs args z w is = rw (is .0) (count-grounded (phases-agree _ _) _)
+
+pub phase-from-start-grounds : Always 2 phase-from-start-kinds.ps phase-from-start-kinds.r phase-from-start.Post
+    (λ κs args z w. let start = args .0 in let ys = now (args .1 .0) in let buffer = now (args .1 .1 .0) in
+    Grounded (OfPhasesFrom start ys (length buffer)) (z .number) (z .place))
+phase-from-start-grounds κs args z w is = rw (is .0) (count-grounded (phases-from-agree _ _ _) _)
 
 pub frequency-from-phase-grounds : Always 2 frequency-from-phase-kinds.ps frequency-from-phase-kinds.r frequency-from-phase.Post
     (λ κs args z w. let xs = now (args .0) in let buffer = now (args .1 .0) in Grounded (OfDifferences xs (length buffer)) (z .number) (z .place))

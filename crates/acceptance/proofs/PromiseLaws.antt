@@ -13,7 +13,7 @@ use lib.Ieee.{Float, nan}
 use lib.Ieee.Exact.{HasValue}
 use lib.Ieee.Nearest.{closest}
 use lib.Ieee.Positive.{positive}
-use lib.IntN.{ℤ, pos, natAbs, _+ℤ_, _-ℤ_, _*ℤ_}
+use lib.IntN.{ℤ, pos, natAbs, _+ℤ_, _-ℤ_, _*ℤ_, +ℤ-idl}
 use lib.ListN.{length, getD, take}
 use lib.Seq.{take-at}
 use lib.Signed.{_≤ℤ_, _<ℤ_}
@@ -28,14 +28,14 @@ use Rattle.laws.proofs.Rounding.{closest-whole}
 use Rattle.wide.specs.Wide.{value, halves}
 use Rattle.wide.proofs.WideLaws.{value-of-halves}
 use Rattle.record.specs.Answers.{countAnswer, bufferLeft}
-use Rattle.record.specs.Refusals.{none, refused, _then_, inRange, recordRefusal}
+use Rattle.record.specs.Refusals.{none, refused, _then_, rangeRefusal, recordRefusal}
 use Rattle.record.specs.declared.Refusal.{Refusal}
 use Rattle.record.specs.declared.CountAnswer.{CountAnswer}
 use Rattle.record.proofs.RangeLaws.{bounded-sample}
 use Rattle.record.proofs.RefusalLaws.{first-refuses-nothing, rest-refuses-nothing, test-fails, none-sound, unrefused-sound}
-use Rattle.frequency.specs.Frequency.{phases, phaseRefusal, differences, frequencyRefusal}
-use Rattle.frequency.proofs.FrequencyLaws.{phases-length, phase-is, differences-length, difference-is}
-use Rattle.frequency.proofs.RoundTrip.{phases-of-differences, refused-at-first-offset, unrefused-in-reach}
+use Rattle.frequency.specs.Frequency.{phasesFrom, phases, phaseRefusal, startRefusal, differences, frequencyRefusal}
+use Rattle.frequency.proofs.FrequencyLaws.{phases-from-length, phase-from-is, refusal-from-nought, differences-length, difference-is}
+use Rattle.frequency.proofs.RoundTrip.{phases-of-differences, refused-at-first-offset, offsets-unrefused, record-again, record-unrefused, differences-of-phases, phases-go-back}
 use Rattle.drift.specs.Drift.{driftH, driftP, driftR, driftRefusal, driftAnswer, floored, withoutDrift, removalRefusal}
 use Rattle.drift.proofs.DriftLaws.{written-out, triangle-is, triangle-double, without-drift-length}
 use Rattle.drift.proofs.Floors.{floored-at-most, one-more-above, floored-only}
@@ -82,7 +82,8 @@ use Rattle.ploegelster.specs.Boundary.{dotKind, toldDot}
 use Rattle.acceptance.specs.Grounds
 use Rattle.acceptance.specs.Grounds.{NoRow, OfDrawn, OfBars}
 use Rattle.acceptance.specs.Promises
-use Rattle.acceptance.specs.Promises.{SumOf, PartsOf, Changed, FractionOf, BackAndForth, DotOf, ToldAs, TypeByTable, NoiseOf, Kappa, HalfOf, BarsOf, DriftRemoved, ConstantDrift, ReadsBack}
+use Rattle.acceptance.specs.Promises.{SumOf, PartsOf, Changed, FractionOf, BackAndForth, GivenBack, DotOf, ToldAs, TypeByTable, NoiseOf, Kappa, HalfOf, BarsOf, DriftRemoved, ConstantDrift, ReadsBack}
+use Rattle.acceptance.proofs.RecordGrounds.{outside-fails}
 
 -- ---- sums, of a record that is not refused
 
@@ -128,6 +129,10 @@ module _ {A : Type 0} {r : Refusal} (nothing : r ≡ none) (n : ℕ) (out buffer
   pub output-entry : (i : ℕ) (e : A) → i < length out → getD (bufferLeft r out buffer) i e ≡ getD out i e
   output-entry i e inside = rw output-left (written-front out buffer i e inside)
 
+  -- the output itself
+  output-taken : length out ≡ n → take (countAnswer r n .count) (bufferLeft r out buffer) ≡ out
+  output-taken whole = rw (count-given, output-left) (take-at out _ n whole)
+
 -- one that is refused 3
 count-three : {r : Refusal} (n : ℕ) {i : ℕ} → r ≡ refused 3 i → countAnswer r n ≡ record { number = 3; place = i; count = 0 }
 unfolding countAnswer
@@ -135,13 +140,28 @@ count-three n three = rw three
 
 -- ---- phase and frequency
 
+module _ (start : ℤ) (ys buffer : List ℤ) (nothing : startRefusal start ys (length buffer) ≡ none) where
+  pub phases-from-of : (countAnswer (startRefusal start ys (length buffer)) (length ys + 1) .count ≡ length ys + 1)
+      × ((i : ℕ) → i ≤ length ys → at (bufferLeft (startRefusal start ys (length buffer)) (phasesFrom start ys) buffer) i ≡ start +ℤ sumℤ i (at ys))
+  phases-from-of = (
+    count-of nothing (length ys + 1) (phasesFrom start ys) buffer,
+    λ i inside.
+        output-entry nothing (length ys + 1) (phasesFrom start ys) buffer i (pos 0) (omega (arith, phases-from-length start ys))
+        ∙ phase-from-is start ys i inside,
+  )
+
+  -- the output itself
+  pub phases-left : take (countAnswer (startRefusal start ys (length buffer)) (length ys + 1) .count)
+      (bufferLeft (startRefusal start ys (length buffer)) (phasesFrom start ys) buffer) ≡ phasesFrom start ys
+  phases-left = output-taken nothing (length ys + 1) (phasesFrom start ys) buffer (phases-from-length start ys)
+
 module _ (ys buffer : List ℤ) (nothing : phaseRefusal ys (length buffer) ≡ none) where
   pub phases-of : (countAnswer (phaseRefusal ys (length buffer)) (length ys + 1) .count ≡ length ys + 1)
       × ((i : ℕ) → i ≤ length ys → at (bufferLeft (phaseRefusal ys (length buffer)) (phases ys) buffer) i ≡ sumℤ i (at ys))
-  phases-of = (
-    count-of nothing (length ys + 1) (phases ys) buffer,
-    λ i inside. output-entry nothing (length ys + 1) (phases ys) buffer i (pos 0) (omega (arith, phases-length ys)) ∙ phase-is ys i inside,
-  )
+  unfolding phases
+  phases-of =
+      let from = rw refusal-from-nought at (phases-from-of (pos 0) ys buffer (refusal-from-nought ys (length buffer) ∙ nothing)) in
+      (from .0, λ i inside. from .1 i inside ∙ +ℤ-idl (sumℤ i (at ys)))
 
 module _ (xs buffer : List ℤ) (nothing : frequencyRefusal xs (length buffer) ≡ none) where
   abbrev left : List ℤ
@@ -156,34 +176,53 @@ module _ (xs buffer : List ℤ) (nothing : frequencyRefusal xs (length buffer) �
 
   -- the output itself
   pub differences-left : take (countAnswer (frequencyRefusal xs (length buffer)) (length xs - 1) .count) left ≡ differences xs
-  differences-left =
-      rw (count-given nothing (length xs - 1) (differences xs) buffer, output-left nothing (length xs - 1) (differences xs) buffer)
-      (take-at (differences xs) _ (length xs - 1) (differences-length xs))
+  differences-left = output-taken nothing (length xs - 1) (differences xs) buffer (differences-length xs)
 
-outside-fails-range : (x : ℤ) → 2 ^ 40 < natAbs x → inRange x ≡ false
-unfolding inRange
-outside-fails-range x beyond = lt-leb (natAbs x) (2 ^ 40) beyond
+-- a call that is not refused and writes what there was
+given-back : {r : Refusal} (nothing : r ≡ none) (n : ℕ) (out buffer : List ℤ) {xs : List ℤ} → out ≡ xs → n ≡ length xs →
+    GivenBack xs (bufferLeft r out buffer) (countAnswer r n)
+given-back nothing n out buffer {xs} same many = (
+  ap (λ (z : CountAnswer). z .number) (count-given nothing n out buffer),
+  count-of nothing n out buffer ∙ many,
+  rw (output-left nothing n out buffer, same) (take-at xs _ (length xs) refl),
+)
 
 module _ (xs : List ℤ) (some : 0 < length xs) (few : length xs ≤ 32768) where
   pub back-and-forth : (other : List ℤ) → length xs ≤ length other →
       BackAndForth xs (bufferLeft (phaseRefusal (differences xs) (length other)) (phases (differences xs)) other)
       (countAnswer (phaseRefusal (differences xs) (length other)) (length (differences xs) + 1))
+  unfolding phases
   back-and-forth other room =
       let many : length (differences xs) + 1 ≡ length xs = omega (arith, differences-length xs) in record {
         given = λ all.
-            let nothing = unrefused-in-reach xs some (length other) few room (λ k inside. bounded-sample _ (all k inside)) in
+            let nothing = offsets-unrefused xs some (length other) few room (λ k inside. bounded-sample _ (all k inside)) in
             let given = count-given nothing (length (differences xs) + 1) (phases (differences xs)) other in (
               ap (λ (z : CountAnswer). z .number) given,
               ap (λ (z : CountAnswer). z .count) given ∙ many,
               λ i inside.
-                  output-entry nothing (length (differences xs) + 1) (phases (differences xs)) other i (pos 0) (omega (arith, phases-length (differences xs)))
+                  output-entry nothing (length (differences xs) + 1) (phases (differences xs)) other i (pos 0) (omega (arith, phases-from-length (pos 0) (differences xs)))
                   ∙ ap (λ (ps : List ℤ). at ps i) (phases-of-differences xs some)
                   ∙ tabulate-entry (length xs) (λ k. at xs k -ℤ at xs 0) (pos 0) i inside,
             );
         refused-first = λ i inside before here.
-            let three = refused-at-first-offset xs some (length other) few room i inside (λ k earlier. bounded-sample _ (before k earlier)) (outside-fails-range _ here) in
+            let three = refused-at-first-offset xs some (length other) few room i inside (λ k earlier. bounded-sample _ (before k earlier)) (outside-fails _ here) in
             (ap (λ (z : CountAnswer). z .number) (count-three _ three), ap (λ (z : CountAnswer). z .place) (count-three _ three));
       }
+
+  pub record-given-back : (other : List ℤ) → length xs ≤ length other → rangeRefusal xs ≡ none →
+      GivenBack xs (bufferLeft (startRefusal (at xs 0) (differences xs) (length other)) (phasesFrom (at xs 0) (differences xs)) other)
+      (countAnswer (startRefusal (at xs 0) (differences xs) (length other)) (length (differences xs) + 1))
+  record-given-back other room in-range =
+      given-back (record-unrefused xs some (length other) few room in-range) (length (differences xs) + 1) (phasesFrom (at xs 0) (differences xs)) other
+      (record-again xs some) (omega (arith, differences-length xs))
+
+module _ (start : ℤ) (ys : List ℤ) where
+  pub readings-given-back : (before : ℕ) → startRefusal start ys before ≡ none → (other : List ℤ) → length ys ≤ length other →
+      let xs = phasesFrom start ys in
+      GivenBack ys (bufferLeft (frequencyRefusal xs (length other)) (differences xs) other) (countAnswer (frequencyRefusal xs (length other)) (length xs - 1))
+  readings-given-back before nothing other room =
+      given-back (phases-go-back start ys before nothing (length other) room) (length (phasesFrom start ys) - 1) (differences (phasesFrom start ys)) other
+      (differences-of-phases start ys) (omega (arith, phases-from-length start ys))
 
 -- ---- drift
 

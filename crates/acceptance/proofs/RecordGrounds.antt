@@ -77,11 +77,11 @@ module _ (d : Demand) (m n : ℕ) where
 -- ---- 3 at the first out of range
 
 module _ (x : ℤ) where
-  outside-fails : 2 ^ 40 < natAbs x → inRange x ≡ false
+  pub outside-fails : 2 ^ 40 < natAbs x → inRange x ≡ false
   unfolding inRange
   outside-fails above = lt-leb (natAbs x) (2 ^ 40) above
 
-  failing-outside : inRange x ≡ false → 2 ^ 40 < natAbs x
+  pub failing-outside : inRange x ≡ false → 2 ^ 40 < natAbs x
   unfolding inRange
   failing-outside e = leb-false (natAbs x) (2 ^ 40) e
 

@@ -8,7 +8,7 @@ use mathlib.Core.Logic.{_⊎_}
 use Prim.Native.Nat.{ℕ, _+_, _-_, _*_, _%_, _^_, _≤_, _<_}
 use lib.Ieee.{Float, nan, inf}
 use lib.Ieee.Exact.{HasValue}
-use lib.IntN.{ℤ, natAbs}
+use lib.IntN.{ℤ, natAbs, _+ℤ_}
 use lib.ListN.{length, getD}
 use Rattle.laws.specs.Greatest.{Greatest}
 use Rattle.laws.specs.Lists.{at}
@@ -99,6 +99,14 @@ pub data OfPhases (ys : List ℤ) (room : ℕ) : ℕ → ℕ → Type 0 where
   many : 32767 < length ys → OfPhases ys room 2 0
   no-room : length ys ≤ 32767 → room < length ys + 1 → OfPhases ys room 6 0
   leaves : {i : ℕ} → length ys ≤ 32767 → length ys + 1 ≤ room → First (length ys) (λ k. 2 ^ 40 < natAbs (sumℤ (k + 1) (at ys))) i → OfPhases ys room 3 i
+
+-- phase_from_start
+pub data OfPhasesFrom (start : ℤ) (ys : List ℤ) (room : ℕ) : ℕ → ℕ → Type 0 where
+  many : 32767 < length ys → OfPhasesFrom start ys room 2 0
+  no-room : length ys ≤ 32767 → room < length ys + 1 → OfPhasesFrom start ys room 6 0
+  outside : length ys ≤ 32767 → length ys + 1 ≤ room → 2 ^ 40 < natAbs start → OfPhasesFrom start ys room 3 0
+  leaves : {i : ℕ} → length ys ≤ 32767 → length ys + 1 ≤ room → natAbs start ≤ 2 ^ 40 →
+      First (length ys) (λ k. 2 ^ 40 < natAbs (start +ℤ sumℤ (k + 1) (at ys))) i → OfPhasesFrom start ys room 3 i
 
 -- frequency_from_phase
 pub data OfDifferences (xs : List ℤ) (room : ℕ) : ℕ → ℕ → Type 0 where

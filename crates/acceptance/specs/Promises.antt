@@ -63,6 +63,10 @@ pub record BackAndForth (xs left : List ℤ) (z : CountAnswer) : Type 0 where
   pub refused-first : (i : ℕ) → i + 1 < length xs → ((k : ℕ) → k < i → natAbs (at xs (k + 1) -ℤ at xs 0) ≤ 2 ^ 40) →
       2 ^ 40 < natAbs (at xs (i + 1) -ℤ at xs 0) → (z .number ≡ 3) × (z .place ≡ i)
 
+-- what is read back, from phase to frequency to phase with x_0 as the start or from frequency to phase to frequency, is what there was
+abbrev pub GivenBack : List ℤ → List ℤ → CountAnswer → Type 0
+GivenBack xs left z = (z .number ≡ 0) × (z .count ≡ length xs) × (take (length xs) left ≡ xs)
+
 -- ---- dots
 
 -- the dot of the variance a / d: r is its deviation. dotNumber and dotValue are the number and the value that each dot stands for

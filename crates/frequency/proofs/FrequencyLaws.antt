@@ -1,12 +1,13 @@
 -- What the code of phase from frequency and back asks: a running phase that stays in range or leaves it, one turn of each loop, and the cases of
 -- the refusals in their order.
 use mathlib.Core.Path.{_≡_, refl, sym, ap, _∙_}
-use mathlib.Core.Bool.{Bool, true, false}
+use mathlib.Core.Bool.{Bool, true, false, not}
 use mathlib.Core.List.{List}
 use Prim.Native.Nat.{ℕ, zero, suc, _+_, _-_, _^_, _≤_, _<_}
 use native.Mathlib.Numerals.{add-one}
 use native.Mathlib.Omega.{arith}
-use borrow.Author.Tests.{lt-leb, lt-ltb, le-ltb, eq-eqb, ne-eqb}
+use borrow.Author.Tests.{ltb-false, not-false, lt-leb, lt-ltb, le-ltb, eq-eqb, ne-eqb}
+use lib.Dec.{ltb}
 use lib.IntN.{ℤ, pos, negsuc, natAbs, _+ℤ_, _-ℤ_, +ℤ-idr, +ℤ-assoc}
 use lib.ListN.{length, drop, set, length-drop, length-set}
 use lib.Seq.{getD-drop}
@@ -20,10 +21,11 @@ use Rattle.laws.proofs.SumLaws.{sumℤ-zero, sumℤ-step}
 use Rattle.laws.proofs.Parts.{one-part, +ℤ-parts, size-is, small-fits}
 use Rattle.laws.proofs.Expressions.{Expression, $_, ±_, _∋_, _⊕_, _⊖_}
 use Rattle.laws.proofs.Machine.{Fit, machine, result, machine-is, result-is, operation-fits, argument, LeavesFit, argument-is, lt-taken, lt-left}
-use Rattle.record.specs.Refusals.{none, refused, inRange, rangeRefusal}
+use Rattle.record.specs.Refusals.{none, refused, refusedIf, _then_, inRange, rangeRefusal}
+use Rattle.record.specs.declared.Refusal.{Refusal}
 use Rattle.frequency.specs.Frequency.{phasesFrom, firstLeaving, phaseRefusal, startRefusal, differences, frequencyRefusal}
 use Rattle.record.proofs.RangeLaws.{sample-bounded}
-use Rattle.record.proofs.RefusalLaws.{range-bounded}
+use Rattle.record.proofs.RefusalLaws.{first-refuses-nothing, rest-refuses-nothing, test-fails, range-bounded}
 
 -- ---- one reading more, tested against the ends -(low + 1) and high
 
@@ -267,6 +269,26 @@ module _ (start : ℤ) (ys : List ℤ) (room : ℕ) where
         unfolding startRefusal
         phases-unrefused e =
             simp (le-ltb 32767 (length ys) few, le-ltb room (length ys + 1) enough, inside, e, le-ltb (length ys) (length ys) (omega arith))
+
+-- what is known where nothing is refused
+pub record Staying (start : ℤ) (ys : List ℤ) : Type 0 where
+  pub few : length ys ≤ 32767
+  pub in-range : natAbs start ≤ 2 ^ 40
+  pub stay : firstLeaving start ys ≡ length ys
+
+pub unrefused-stays : (start : ℤ) (ys : List ℤ) (room : ℕ) → startRefusal start ys room ≡ none → Staying start ys
+unfolding startRefusal
+unrefused-stays start ys room nothing =
+    let many = refusedIf (ltb 32767 (length ys)) 2 0 in
+    let no-room = refusedIf (ltb room (length ys + 1)) 6 0 in
+    let outside = refusedIf (not (inRange start)) 3 0 in
+    let leaves = refusedIf (ltb (firstLeaving start ys) (length ys)) 3 (firstLeaving start ys) in
+    let all = ap (λ (r : Refusal). r .number) nothing in
+    let phases = rest-refuses-nothing no-room (outside then leaves) (rest-refuses-nothing many (no-room then outside then leaves) all) in record {
+      few = ltb-false 32767 (length ys) (test-fails _ 2 0 (omega arith) (first-refuses-nothing many (no-room then outside then leaves) all));
+      in-range = sample-bounded start (not-false _ (test-fails _ 3 0 (omega arith) (first-refuses-nothing outside leaves phases)));
+      stay = no-reading-leaves start ys (ltb-false _ (length ys) (test-fails _ 3 _ (omega arith) (rest-refuses-nothing outside leaves phases)));
+    }
 
 -- 0 is in range: from there phases are refused as phase from frequency is
 pub refusal-from-nought : (ys : List ℤ) (room : ℕ) → startRefusal (pos 0) ys room ≡ phaseRefusal ys room

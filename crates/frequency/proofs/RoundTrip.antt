@@ -2,9 +2,9 @@
 use mathlib.Core.Path.{_≡_, sym, ap, _∙_}
 use mathlib.Core.Bool.{true, false}
 use mathlib.Core.List.{List}
-use Prim.Native.Nat.{ℕ, _+_, _-_, _^_, _≤_, _<_}
+use Prim.Native.Nat.{ℕ, _+_, _-_, _≤_, _<_}
 use native.Mathlib.Omega.{arith}
-use lib.IntN.{ℤ, pos, natAbs, _+ℤ_, _-ℤ_, +ℤ-idl}
+use lib.IntN.{ℤ, pos, _+ℤ_, _-ℤ_, +ℤ-idl}
 use lib.ListN.{length}
 use Rattle.laws.specs.Lists.{at, tabulate}
 use Rattle.laws.proofs.ListLaws.{tabulate-equal, tabulate-of, first-failing-is, none-fails}
@@ -14,7 +14,7 @@ use Rattle.record.specs.Refusals.{none, refused, inRange, rangeRefusal}
 use Rattle.frequency.specs.Frequency.{phasesFrom, phases, firstLeaving, phaseRefusal, startRefusal, differences, frequencyRefusal}
 use Rattle.record.proofs.RangeLaws.{bounded-sample}
 use Rattle.record.proofs.RefusalLaws.{all-in-range, range-bounded}
-use Rattle.frequency.proofs.FrequencyLaws.{running, later, running-step, phases-from-length, phase-from-is, later-length, later-is, differences-length, difference-is, phase-in-range, reading-leaves, phases-unrefused, refusal-from-nought, range-decides}
+use Rattle.frequency.proofs.FrequencyLaws.{running, later, running-step, phases-from-length, phase-from-is, later-length, later-is, differences-length, difference-is, phase-in-range, reading-leaves, phases-unrefused, unrefused-stays, refusal-from-nought, range-decides}
 
 -- ---- phase to frequency to phase, from a start
 
@@ -119,14 +119,15 @@ module _ (start : ℤ) (ys : List ℤ) where
           (equation (x ⊕ $ at ys i ⊖ x) ($ at ys i) (omega arith))
 
   -- phases that were not refused are not refused on the way back
-  pub phases-go-back : (room : ℕ) → natAbs start ≤ 2 ^ 40 → firstLeaving start ys ≡ length ys → length ys ≤ 32767 → length ys ≤ room →
-      frequencyRefusal (phasesFrom start ys) room ≡ none
-  phases-go-back room in-range stay few enough =
+  pub phases-go-back : (before : ℕ) → startRefusal start ys before ≡ none → (room : ℕ) → length ys ≤ room → frequencyRefusal (phasesFrom start ys) room ≡ none
+  phases-go-back before nothing room enough =
       let ps = phasesFrom start ys in
       let count = phases-from-length start ys in
+      let known = unrefused-stays start ys before nothing in
       range-decides ps room (omega arith) (λ e. omega arith) (omega arith) ∙ all-in-range ps (none-fails inRange (pos 0) ps stays)
     where
       stays : (k : ℕ) → k < length (phasesFrom start ys) → inRange (at (phasesFrom start ys) k) ≡ true
       stays k h =
           let inside : k ≤ length ys = omega (arith, phases-from-length start ys) in
-          bounded-sample _ (rw (phase-from-is start ys k inside) (phase-in-range start ys stay in-range k inside))
+          let known = unrefused-stays start ys before nothing in
+          bounded-sample _ (rw (phase-from-is start ys k inside) (phase-in-range start ys (known .stay) (known .in-range) k inside))

@@ -19,7 +19,11 @@ pub extern "C" fn plg_phase_from_frequency(readings: &[i64], buffer: &mut [i64])
 
 // Phases from readings, from a start on.
 #[no_mangle]
-pub extern "C" fn plg_phase_from_start(start: i64, readings: &[i64], buffer: &mut [i64]) -> CountAnswer
+pub extern "C" fn plg_phase_from_start(
+    start: i64,
+    readings: &[i64],
+    buffer: &mut [i64],
+) -> CountAnswer
     ensures { λ r. ⌜ r ≡ countAnswer (startRefusal start (now (readings .entry)) (length (now (buffer .entry)))) (length (now (readings .entry)) + 1) ⌝ }
     ensures { λ r. ⌜ now (buffer .exit) ≡ bufferLeft (startRefusal start (now (readings .entry)) (length (now (buffer .entry)))) (phasesFrom start (now (readings .entry))) (now (buffer .entry)) ⌝ }
 {
