@@ -2,10 +2,10 @@
 
 use super::drawn::{allan_dot, drawn_number, time_dot, Dot};
 use super::drift::{drift_figure, remove_drift, Drift};
-use super::file::{file_of, read_file, write_file, Kind, Read};
+use super::file::{file_of, read_file, read_record, record_of, write_file, write_record, Kind, Read, Record, Version};
 use super::floats::{float_sums, sample_of, FloatSums};
 use super::fractions::*;
-use super::frequency::{frequency_from_phase, phase_from_frequency};
+use super::frequency::{frequency_from_phase, phase_from_frequency, phase_from_start};
 use super::meter;
 use super::noise::{bars, half_width, noise_of_record, noise_type, Bars, Noise};
 use super::sums::{allan_sum, modified_sum, Sum};
@@ -70,6 +70,13 @@ fn readings_and_drift() {
     assert_eq!(buffer, [0, 3, 2, 6, 7, 7]);
     assert_eq!(frequency_from_phase(&[0, 3, 2, 6], &mut buffer), Ok(3));
     assert_eq!(buffer, [3, -1, 4, 6, 7, 7]);
+    assert_eq!(phase_from_start(5, &[3, -1, 4], &mut buffer), Ok(4));
+    assert_eq!(buffer, [5, 8, 7, 11, 7, 7]);
+    assert_eq!(frequency_from_phase(&[5, 8, 7, 11], &mut buffer), Ok(3));
+    assert_eq!(buffer, [3, -1, 4, 11, 7, 7]);
+    assert_eq!(phase_from_start(END + 1, &[-1], &mut buffer), refused(3, 0));
+    assert_eq!(phase_from_start(END, &[-1, 2], &mut buffer), refused(3, 1));
+    assert_eq!(buffer, [3, -1, 4, 11, 7, 7]);
     let x = [0, 1, 4, 9, 16, 25];
     assert_eq!(drift_figure(&x), Ok(Drift { p: 8, r: 4 }));
     assert_eq!(remove_drift(&x, &mut buffer), Ok(6));
@@ -224,4 +231,27 @@ fn whole_file() {
     assert_eq!(read_file(&[], &mut values), refused(9, 0));
     assert_eq!(read_file(&[0x50, 0x48, 0x52, 1, 1], &mut values), refused(9, 4));
     assert_eq!(read_file(&file[..23], &mut values), refused(9, 23));
+}
+
+#[test]
+fn whole_file_with_a_start() {
+    let file = [
+        0x50, 0x48, 0x52, 0x02, 0x00, 0x01, 0x02, 0x00, 0x05, 0x00, 0x00, 0x00, 0x00, 0x00, 0x00, 0x00, 0x01, 0x00, 0x00, 0x00, 0x00, 0x00, 0x00,
+        0x00, 0xFF, 0xFF, 0xFF, 0xFF, 0xFF, 0xFF, 0xFF, 0xFF,
+    ];
+    assert_eq!(record_of(Kind::Frequency, 5, &[1, -1]), file);
+    let (mut values, mut bytes) = ([7; 3], [9; 33]);
+    assert_eq!(read_file(&file, &mut values), refused(9, 3));
+    assert_eq!(values, [7; 3]);
+    assert_eq!(read_record(&file, &mut values), Ok(Record { version: Version::Two, kind: Kind::Frequency, start: 5, count: 2 }));
+    assert_eq!(values, [1, -1, 7]);
+    assert_eq!(write_record(1, 5, &[1, -1], &mut bytes), Ok(32));
+    assert_eq!((&bytes[..32], bytes[32]), (&file[..], 9));
+    assert_eq!(write_record(0, 5, &[1, -1], &mut bytes), refused(9, 8));
+    assert_eq!(write_record(2, 5, &[1, -1], &mut bytes), refused(9, 5));
+    assert_eq!(write_record(1, END + 1, &[1, -1], &mut bytes), refused(3, 0));
+    assert_eq!(read_record(&file[..15], &mut values), refused(9, 15));
+    assert_eq!(read_record(&file[..31], &mut values), refused(9, 31));
+    assert_eq!(read_record(&file_of(Kind::Phase, &[4]), &mut values), Ok(Record { version: Version::One, kind: Kind::Phase, start: 0, count: 1 }));
+    assert_eq!(values, [4, -1, 7]);
 }

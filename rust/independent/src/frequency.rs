@@ -2,11 +2,12 @@
 
 use super::{ask, ask_at, ask_samples, in_sample_range, Answer, MOST_READINGS, MOST_SAMPLES};
 
-/// Phases from 0 on, each reading added; gives how many were written.
-pub fn phase_from_frequency(readings: &[i64], buffer: &mut [i64]) -> Answer<u64> {
+/// Phases from a start on, each reading added; gives how many were written.
+pub fn phase_from_start(start: i64, readings: &[i64], buffer: &mut [i64]) -> Answer<u64> {
     ask(readings.len() as u64 <= MOST_READINGS, 2)?;
     ask(buffer.len() > readings.len(), 6)?;
-    let mut phases = vec![0i128];
+    ask(in_sample_range(start as i128), 3)?;
+    let mut phases = vec![start as i128];
     for (index, &reading) in readings.iter().enumerate() {
         let phase = phases[index] + reading as i128;
         ask_at(in_sample_range(phase), 3, index as u64)?;
@@ -16,6 +17,11 @@ pub fn phase_from_frequency(readings: &[i64], buffer: &mut [i64]) -> Answer<u64>
         *entry = *phase as i64;
     }
     Ok(phases.len() as u64)
+}
+
+/// Phases from 0 on, which is in the sample range.
+pub fn phase_from_frequency(readings: &[i64], buffer: &mut [i64]) -> Answer<u64> {
+    phase_from_start(0, readings, buffer)
 }
 
 /// Differences of neighbours; gives how many were written.
