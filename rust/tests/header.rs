@@ -178,6 +178,35 @@ fn a_count_ends_the_sums_of_float_readings() {
     assert_eq!(std::mem::offset_of!(boundary::FloatSumsAnswer, changed), 10 * 8);
 }
 
+/// The answer of a reader of either version is six words; that of the reader of version 1 alone has stayed at four.
+#[test]
+fn a_record_has_its_version_and_its_start() {
+    let declared = of_header();
+    for line in [
+        "struct ReadAnswer { number: u64, place: u64, kind: u64, count: u64 }",
+        "struct RecordAnswer { number: u64, place: u64, version: u64, kind: u64, start: i64, count: u64 }",
+        "fn plg_read_file(bytes: *const u8, bytes_length: usize, buffer: *mut i64, buffer_length: usize) -> ReadAnswer",
+        "fn plg_write_file(kind: u64, values: *const i64, values_length: usize, buffer: *mut u8, buffer_length: usize) -> CountAnswer",
+        "fn plg_read_record(bytes: *const u8, bytes_length: usize, buffer: *mut i64, buffer_length: usize) -> RecordAnswer",
+        "fn plg_write_record(kind: u64, start: i64, values: *const i64, values_length: usize, buffer: *mut u8, buffer_length: usize) -> CountAnswer",
+        "fn plg_phase_from_start(start: i64, readings: *const i64, readings_length: usize, buffer: *mut i64, buffer_length: usize) -> CountAnswer",
+    ] {
+        assert!(declared.contains(line), "{line}");
+    }
+    assert_eq!(std::mem::size_of::<boundary::ReadAnswer>(), 4 * 8);
+    assert_eq!(std::mem::size_of::<boundary::RecordAnswer>(), 6 * 8);
+    assert_eq!(std::mem::align_of::<boundary::RecordAnswer>(), 8);
+    let offsets = [
+        std::mem::offset_of!(boundary::RecordAnswer, number),
+        std::mem::offset_of!(boundary::RecordAnswer, place),
+        std::mem::offset_of!(boundary::RecordAnswer, version),
+        std::mem::offset_of!(boundary::RecordAnswer, kind),
+        std::mem::offset_of!(boundary::RecordAnswer, start),
+        std::mem::offset_of!(boundary::RecordAnswer, count),
+    ];
+    assert_eq!(offsets, [0, 8, 16, 24, 32, 40]);
+}
+
 #[test]
 fn a_safe_function_for_each_entry() {
     let sources = [
@@ -253,9 +282,13 @@ fn same_numbers() {
     ];
     let own: BTreeMap<String, i128> = own.into_iter().map(|(name, value)| (name.to_string(), value)).collect();
     assert_eq!(macros(), own);
-    // The macros that take a number are none of these, and there is one.
-    assert!(header().contains("#define PLG_FILE_LENGTH(count) (8 + 8 * (size_t)(count))\n"));
+    // The macros that take a number are none of these, and there are two.
+    let text = header();
+    let defined = text.lines().filter_map(|line| line.trim().strip_prefix("#define ")?.split_once(' '));
+    let taking: Vec<(&str, &str)> = defined.filter(|(name, _)| name.contains('(')).collect();
+    assert_eq!(taking, [("PLG_FILE_LENGTH(count)", "(8 + 8 * (size_t)(count))"), ("PLG_RECORD_LENGTH(count)", "(16 + 8 * (size_t)(count))")]);
     assert_eq!([0, 1, 32_768].map(ploegelster::file_length), [8, 16, 262_152]);
+    assert_eq!([0, 1, 32_767, 32_768].map(ploegelster::record_length), [16, 24, 262_152, 262_160]);
 }
 
 #[test]

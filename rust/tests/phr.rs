@@ -1,4 +1,4 @@
-//! The crate `phr` over the C boundary: the record file, read and written.
+//! The crate `phr` over the C boundary: the record file of version 1, read and written.
 
 #[allow(dead_code)]
 mod shared;
@@ -7,10 +7,11 @@ use independent::file::{self, file_of, Kind};
 use ploegelster::Contents;
 use shared::answers::{expected, Words};
 use shared::ends::{self, block_counts};
+use shared::files::{end_of, values, KINDS};
 use shared::lent::{Lent, Sides};
 use shared::random::Random;
 use shared::records::rooms;
-use shared::{raw, shown, Tally, END};
+use shared::{raw, shown, Tally};
 
 fn read_case(tally: &mut Tally, bytes: &[u8], room: usize) {
     let input = || format!("read, buffer of {room}, bytes {}", shown(bytes));
@@ -33,24 +34,6 @@ fn write_case(tally: &mut Tally, kind: u64, values: &[i64], room: usize) {
     }
     buffers.same_painted(own.is_err(), input);
     assert!(lent.holds(values), "values changed, {}", input());
-}
-
-const KINDS: [Kind; 2] = [Kind::Phase, Kind::Frequency];
-
-fn end_of(kind: Kind) -> i64 {
-    match kind {
-        Kind::Phase => END,
-        Kind::Frequency => 2 * END,
-    }
-}
-
-/// Values of a kind, each within its range or, one in so many, about an end of either kind's range or of a word.
-fn values(random: &mut Random, kind: Kind, count: usize, one_in: u64) -> Vec<i64> {
-    let end = end_of(kind);
-    let about = [-1, 0, 1].map(|step| [END, -END, 2 * END, -2 * END, i64::MAX - 1, i64::MIN + 1].map(|limit| limit + step)).concat();
-    let size = random.sized(41) as i64;
-    let size = size.min(end);
-    (0..count).map(|_| if one_in > 0 && random.one_in(one_in) { random.pick(&about) } else { random.between(-size, size) }).collect()
 }
 
 #[test]

@@ -66,10 +66,32 @@ fn figure_case(tally: &mut Tally, samples: &[i64]) {
     assert!(lent.holds(samples), "samples changed, {}", shown(samples));
 }
 
-/// Readings whose running phase stays in range: the steps from 0 to each sample of a record.
-fn readings(random: &mut Random, length: usize) -> Vec<i64> {
-    let mut last = 0;
+/// One case of phases from a start. From 0 the answer and the buffer are those of phases from frequency. Gives number and place.
+fn start_case(tally: &mut Tally, start: i64, readings: &[i64], room: usize) -> (u64, u64) {
+    let input = || format!("phase from start, start {start}, buffer of {room}, readings {}", shown(readings));
+    let (mut lent, mut buffers) = (Lent::holding(readings), Sides::painted(room));
+    let own = frequency::phase_from_start(start, readings, buffers.own.part());
+    let raw = raw::phase_from_start(start, lent.part(), buffers.raw.part());
+    tally.same(&raw, &ploegelster::phase_from_start(start, lent.part(), buffers.wrapped.part()), &own, input);
+    buffers.same_painted(own.is_err(), input);
+    if start == 0 {
+        let mut older = Lent::painted(room);
+        assert_eq!(raw, raw::phase_from_frequency(lent.part(), older.part()), "phase from start left, from frequency right, {}", input());
+        assert_eq!(buffers.raw.differs(&older), None, "first other entry of the buffer, phase from frequency, {}", input());
+    }
+    assert!(lent.holds(readings), "readings changed, {}", input());
+    (raw.number, raw.place)
+}
+
+/// Readings whose running phase stays in range: the steps from a start to each sample of a record.
+fn readings_from(random: &mut Random, start: i64, length: usize) -> Vec<i64> {
+    let mut last = start;
     record(random, length).into_iter().map(|x| x - std::mem::replace(&mut last, x)).collect()
+}
+
+/// The same from 0.
+fn readings(random: &mut Random, length: usize) -> Vec<i64> {
+    readings_from(random, 0, length)
 }
 
 /// The readings with some of them moved, so that the phase may leave the range, by a little or by so much that a word would wrap.
@@ -689,4 +711,201 @@ fn phase_to_frequency_to_phase() {
     }
     assert_eq!(cases, 3_000);
     assert!(refusals > 100 && refusals < 2_900);
+}
+
+/// The figure of the rules: readings 3 -1 4 from the start 5.
+#[test]
+fn phases_from_the_start_5() {
+    let mut buffer = [9; 6];
+    assert_eq!(raw::phase_from_start(5, &[3, -1, 4], &mut buffer), CountAnswer { number: 0, place: 0, count: 4 });
+    assert_eq!(buffer, [5, 8, 7, 11, 9, 9]);
+    assert_eq!(raw::frequency_from_phase(&[5, 8, 7, 11], &mut buffer), CountAnswer { number: 0, place: 0, count: 3 });
+    assert_eq!(buffer, [3, -1, 4, 11, 9, 9]);
+    // No reading gives the start alone, and a start outside the range is refused, whatever follows.
+    assert_eq!(raw::phase_from_start(-END, &[], &mut buffer), CountAnswer { number: 0, place: 0, count: 1 });
+    assert_eq!(buffer, [-END, -1, 4, 11, 9, 9]);
+    assert_eq!(raw::phase_from_start(-END - 1, &[1], &mut buffer), CountAnswer { number: 3, place: 0, count: 0 });
+    assert_eq!(buffer, [-END, -1, 4, 11, 9, 9]);
+}
+
+#[test]
+fn limits_of_length_and_room_from_a_start() {
+    let (mut tally, mut random) = (Tally::default(), Random::new(111));
+    for length in [0, 1, 2, 3, 1_000, 32_767, 32_768, 65_536] {
+        for start in [0, END, -END, END + 1, i64::MIN] {
+            let sound = readings_from(&mut random, start.clamp(-END, END), length);
+            let other = moved(&mut random, sound.clone());
+            for room in rooms(length + 1) {
+                let told = if length > 32_767 {
+                    (2, 0)
+                } else if room <= length {
+                    (6, 0)
+                } else if start.clamp(-END, END) != start {
+                    (3, 0)
+                } else {
+                    (0, 0)
+                };
+                assert_eq!(start_case(&mut tally, start, &sound, room), told, "start {start}, {length} readings, buffer of {room}");
+            }
+            start_case(&mut tally, start, &other, length + 1);
+        }
+    }
+    tally.ran(240, &[0, 2, 3, 6]);
+}
+
+#[test]
+fn every_start_alone_and_before_a_reading() {
+    let mut tally = Tally::default();
+    for start in ends::within(END) {
+        assert_eq!(start_case(&mut tally, start, &[], 1), (0, 0));
+        assert_eq!(start_case(&mut tally, start, &[], 0), (6, 0));
+        for phase in ends::within(END) {
+            assert_eq!(start_case(&mut tally, start, &[phase - start], 3), (0, 0));
+            assert_eq!(start_case(&mut tally, start, &[phase - start, start - phase], 3), (0, 0));
+        }
+        // A phase far enough outside takes a reading that no word holds.
+        for phase in ends::beyond(END) {
+            if let Some(reading) = phase.checked_sub(start) {
+                assert_eq!(start_case(&mut tally, start, &[reading], 2), (3, 0));
+                assert_eq!(start_case(&mut tally, start, &[0, reading, 0], 4), (3, 1));
+            }
+        }
+        for reading in [i64::MIN, i64::MIN + 1, i64::MAX - 1, i64::MAX] {
+            assert_eq!(start_case(&mut tally, start, &[0, 0, reading], 4), (3, 2));
+        }
+    }
+    for start in ends::beyond(END) {
+        for readings in [&[][..], &[0], &[-start.signum()], &[start.checked_neg().unwrap_or(i64::MAX), 0], &[i64::MAX, i64::MIN]] {
+            assert_eq!(start_case(&mut tally, start, readings, readings.len() + 1), (3, 0));
+            assert_eq!(start_case(&mut tally, start, readings, readings.len()), (6, 0));
+        }
+    }
+    tally.ran(32_648, &[0, 3, 6]);
+}
+
+/// From starts at the ends and between them, a reading that takes the phase to an end exactly, or one past it, at the first, a middle and the last
+/// place.
+#[test]
+fn phases_from_a_start_that_reach_an_end_and_pass_it() {
+    let mut tally = Tally::default();
+    for length in [1, 2, 3, 17, 300, 32_767] {
+        let starts = if length <= 300 { &[-END, 1 - END, -1, 0, 1, END - 1, END][..] } else { &[-END, END] };
+        for &start in starts {
+            for index in [0, length / 2, length - 1] {
+                for end in [END, -END] {
+                    for past in [0, 1] {
+                        // One step inward and back before that place, and the same after it.
+                        let stepped = |phase: i64, i: usize| if i % 2 == 1 { phase - phase.signum() } else { phase };
+                        let at = |i: usize| match i.cmp(&(index + 1)) {
+                            std::cmp::Ordering::Less => stepped(start, i),
+                            std::cmp::Ordering::Equal => end + past * end.signum(),
+                            std::cmp::Ordering::Greater => stepped(end, i - index - 1),
+                        };
+                        let phases: Vec<i64> = (0..=length).map(at).collect();
+                        let readings: Vec<i64> = phases.windows(2).map(|pair| pair[1] - pair[0]).collect();
+                        let told = if past == 1 { (3, index as u64) } else { (0, 0) };
+                        assert_eq!(start_case(&mut tally, start, &readings, length + 1), told, "start {start}, readings {}", shown(&readings));
+                        if past == 0 {
+                            let mut buffer = vec![7; length + 1];
+                            assert_eq!(ploegelster::phase_from_start(start, &readings, &mut buffer), Ok(length + 1));
+                            assert!(buffer == phases, "start {start}, readings {}", shown(&readings));
+                        }
+                    }
+                }
+            }
+        }
+    }
+    tally.ran(444, &[0, 3]);
+}
+
+/// Every set of what may be wrong at once; the first in the rules' order is told.
+#[test]
+fn first_of_all_faults_from_a_start() {
+    let (mut tally, mut random) = (Tally::default(), Random::new(112));
+    for set in 0..16 {
+        let [many, no_room, bad_start, leaving] = [1, 2, 4, 8].map(|fault| set & fault != 0);
+        // The longest take their time, and are tried less often.
+        for _ in 0..if many { 3 } else { 200 } {
+            let length = if many { random.pick(&[32_768, 32_769, 40_000]) } else { random.between(1, 12) as usize };
+            let start = if bad_start { random.pick(&OUTSIDE) } else { random.pick(&ends::within(END)) };
+            let mut steps = readings_from(&mut random, start.clamp(-END, END), length);
+            let index = random.below(length as u64) as usize;
+            if leaving {
+                steps[index] = random.pick(&[2 * END + 1, -2 * END - 1, i64::MAX, i64::MIN]);
+            }
+            let room = if no_room { random.below(length as u64 + 1) as usize } else { length + 1 };
+            let told = [many.then_some((2, 0)), no_room.then_some((6, 0)), bad_start.then_some((3, 0)), leaving.then_some((3, index as u64))];
+            let first = told.into_iter().flatten().next().unwrap_or((0, 0));
+            assert_eq!(start_case(&mut tally, start, &steps, room), first, "start {start}, readings {}", shown(&steps));
+        }
+    }
+    tally.ran(1_624, &[0, 2, 3, 6]);
+}
+
+#[test]
+fn short_records_from_a_start() {
+    let (mut tally, mut random) = (Tally::default(), Random::new(113));
+    for _ in 0..12_000 {
+        let length = random.below(40) as usize;
+        let start = match random.below(8) {
+            0 => random.pick(&OUTSIDE),
+            1 | 2 => 0,
+            3 => random.pick(&[END, -END]),
+            _ => random.between(-END, END),
+        };
+        let sound = readings_from(&mut random, start.clamp(-END, END), length);
+        let other = moved(&mut random, sound);
+        let room = random.pick(&rooms(length + 1));
+        start_case(&mut tally, start, &other, room);
+    }
+    tally.ran(12_000, &[0, 3, 6]);
+}
+
+/// From phase to frequency to phase with the first sample as the start: the record, whatever it is.
+#[test]
+fn records_come_back_whole_from_their_start() {
+    let (mut tally, mut random) = (Tally::default(), Random::new(114));
+    let mut back = |samples: &[i64]| {
+        let length = samples.len();
+        let (mut steps, mut phases) = (vec![0; length - 1], vec![0; length]);
+        assert_eq!(ploegelster::frequency_from_phase(samples, &mut steps), Ok(length - 1));
+        assert_eq!(start_case(&mut tally, samples[0], &steps, length), (0, 0), "samples {}", shown(samples));
+        assert_eq!(ploegelster::phase_from_start(samples[0], &steps, &mut phases), Ok(length));
+        assert!(phases == samples, "samples {}", shown(samples));
+    };
+    for length in [1, 2, 3, 100, 32_767, 32_768] {
+        for first in [END, -END] {
+            let alternating: Vec<i64> = (0..length).map(|i| if i % 2 == 0 { first } else { -first }).collect();
+            back(&alternating);
+            back(&vec![first; length]);
+        }
+    }
+    for _ in 0..4_000 {
+        let length = random.between(1, 50) as usize;
+        back(&record(&mut random, length));
+    }
+    tally.ran(4_024, &[0]);
+}
+
+/// From frequency to phase to frequency, from every start: the readings.
+#[test]
+fn readings_come_back_from_every_start() {
+    let (mut cases, mut random) = (0, Random::new(115));
+    let mut back = |start: i64, steps: &[i64]| {
+        let (mut phases, mut again) = (vec![0; steps.len() + 1], vec![0; steps.len()]);
+        assert_eq!(ploegelster::phase_from_start(start, steps, &mut phases), Ok(steps.len() + 1));
+        assert_eq!(phases[0], start);
+        assert_eq!(ploegelster::frequency_from_phase(&phases, &mut again), Ok(steps.len()));
+        assert!(again == steps, "start {start}, readings {}", shown(steps));
+        cases += 1;
+    };
+    for start in ends::within(END) {
+        for _ in 0..200 {
+            let length = random.below(50) as usize;
+            back(start, &readings_from(&mut random, start, length));
+        }
+        let steps: Vec<i64> = (0..32_767).map(|i| if i % 2 == 0 { -start } else { start }).collect();
+        back(start, &steps);
+    }
+    assert_eq!(cases, 3_015);
 }

@@ -47,6 +47,24 @@ fn a_reading_that_is_not_a_number_in_words() {
 }
 
 #[test]
+fn a_start_that_phase_samples_do_not_have_in_words() {
+    let mut bytes = [7; 24];
+    let refusal = ploegelster::write_record(Kind::Phase, 5, &[1], &mut bytes).unwrap_err();
+    assert_eq!(refusal, Refusal { ground: Ground::BadFile, place: 8 });
+    assert_eq!(refusal.to_string(), "refused 9, bad bytes or a bad length in a file, at 8");
+    assert_eq!(bytes, [7; 24]);
+}
+
+#[test]
+fn lengths_of_files_stop_at_the_largest_number() {
+    for count in [usize::MAX, usize::MAX / 8, usize::MAX / 8 + 1] {
+        assert_eq!((ploegelster::file_length(count), ploegelster::record_length(count)), (usize::MAX, usize::MAX));
+    }
+    let most = usize::MAX / 8 - 2;
+    assert_eq!((ploegelster::file_length(most), ploegelster::record_length(most)), (usize::MAX - 15, usize::MAX - 7));
+}
+
+#[test]
 fn halves() {
     const MOST: u64 = u64::MAX;
     let wholes = [(0, 0, 0), (1, 0, 1), (MOST as u128, 0, MOST), (1 << 64, 1, 0), (5 << 64 | 7, 5, 7), (u128::MAX - 1, MOST, MOST - 1)];

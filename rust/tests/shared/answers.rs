@@ -2,7 +2,7 @@
 
 use independent::drawn::Dot;
 use independent::drift::Drift;
-use independent::file::Read;
+use independent::file::{Read, Record};
 use independent::floats::FloatSums;
 use independent::fractions::Fraction;
 use independent::meter::Meter;
@@ -96,6 +96,12 @@ impl Words for boundary::MeterAnswer {
 impl Words for boundary::ReadAnswer {
     fn words(&self) -> Vec<u64> {
         vec![self.number, self.place, self.kind, self.count]
+    }
+}
+
+impl Words for boundary::RecordAnswer {
+    fn words(&self) -> Vec<u64> {
+        vec![self.number, self.place, self.version, self.kind, self.start as u64, self.count]
     }
 }
 
@@ -212,6 +218,13 @@ impl Values for Read {
     }
 }
 
+impl Values for Record {
+    const LENGTH: usize = 4;
+    fn values(&self) -> Vec<u64> {
+        vec![self.version.number() as u64, self.kind.byte() as u64, self.start as u64, self.count]
+    }
+}
+
 /// How many entries the wrapper says were written.
 impl Values for usize {
     const LENGTH: usize = 1;
@@ -291,6 +304,13 @@ impl Values for ploegelster::Contents {
     const LENGTH: usize = 2;
     fn values(&self) -> Vec<u64> {
         vec![self.kind.number(), self.count as u64]
+    }
+}
+
+impl Values for ploegelster::Record {
+    const LENGTH: usize = 4;
+    fn values(&self) -> Vec<u64> {
+        vec![self.version, self.kind.number(), self.start as u64, self.count as u64]
     }
 }
 

@@ -1,11 +1,12 @@
-//! What the test files share: numbers from fixed seeds, records sound and damaged, the ends of blocks and ranges, doubles of every class, painted
-//! buffers, and answers laid out as words to compare.
+//! What the test files share: numbers from fixed seeds, records sound and damaged, values of files, the ends of blocks and ranges, doubles of every
+//! class, painted buffers, and answers laid out as words to compare.
 //!
 //! A case is worked three times: over the plain C interface, by the wrapper, and by the second implementation, which the other two are compared with.
 
 pub mod answers;
 pub mod doubles;
 pub mod ends;
+pub mod files;
 pub mod lent;
 pub mod random;
 pub mod raw;

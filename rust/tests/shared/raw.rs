@@ -34,6 +34,10 @@ pub fn phase_from_frequency(readings: &[i64], buffer: &mut [i64]) -> CountAnswer
     unsafe { plg_phase_from_frequency(readings.as_ptr(), readings.len(), buffer.as_mut_ptr(), buffer.len()) }
 }
 
+pub fn phase_from_start(start: i64, readings: &[i64], buffer: &mut [i64]) -> CountAnswer {
+    unsafe { plg_phase_from_start(start, readings.as_ptr(), readings.len(), buffer.as_mut_ptr(), buffer.len()) }
+}
+
 pub fn frequency_from_phase(samples: &[i64], buffer: &mut [i64]) -> CountAnswer {
     unsafe { plg_frequency_from_phase(samples.as_ptr(), samples.len(), buffer.as_mut_ptr(), buffer.len()) }
 }
@@ -97,4 +101,12 @@ pub fn read_file(bytes: &[u8], buffer: &mut [i64]) -> ReadAnswer {
 
 pub fn write_file(kind: u64, values: &[i64], buffer: &mut [u8]) -> CountAnswer {
     unsafe { plg_write_file(kind, values.as_ptr(), values.len(), buffer.as_mut_ptr(), buffer.len()) }
+}
+
+pub fn read_record(bytes: &[u8], buffer: &mut [i64]) -> RecordAnswer {
+    unsafe { plg_read_record(bytes.as_ptr(), bytes.len(), buffer.as_mut_ptr(), buffer.len()) }
+}
+
+pub fn write_record(kind: u64, start: i64, values: &[i64], buffer: &mut [u8]) -> CountAnswer {
+    unsafe { plg_write_record(kind, start, values.as_ptr(), values.len(), buffer.as_mut_ptr(), buffer.len()) }
 }
