@@ -80,7 +80,7 @@ use Rattle.noise.proofs.noise_of_record.Kinds as noise-of-record-kinds
 use Rattle.noise.proofs.bars.bars.Reads as bars
 use Rattle.noise.proofs.bars.bars.Kinds as bars-kinds
 use Rattle.phr.specs.Bytes.{lowFirst, twosComplement, valuesBytes}
-use Rattle.phr.specs.File.{header, fileOf, IsFile, AreBytes}
+use Rattle.phr.specs.File.{firstEight, header, fileOf, IsFile, AreBytes}
 use Rattle.phr.proofs.read_file.Reads as read-file
 use Rattle.phr.proofs.read_file.Kinds as read-file-kinds
 use Rattle.phr.proofs.write_file.Reads as write-file
@@ -467,7 +467,7 @@ pub file-by-bytes : Always 2 write-file-kinds.ps write-file-kinds.r write-file.P
     (λ κs args z w. let kind = args .0 in let values = now (args .1 .0) in let left = w .1 .1 .0 in
     kind ≡ 1 → values ≡ pos 0x10203040506 ∷ [] → 16 ≤ length (now (args .1 .1 .0)) → (z .count ≡ 16) × (take 16 left
     ≡ 0x50 ∷ 0x48 ∷ 0x52 ∷ 0x01 ∷ 0x00 ∷ 0x01 ∷ 0x01 ∷ 0x00 ∷ 0x06 ∷ 0x05 ∷ 0x04 ∷ 0x03 ∷ 0x02 ∷ 0x01 ∷ 0x00 ∷ 0x00 ∷ []))
-unfolding header lowFirst fileOf twosComplement valuesBytes
+unfolding firstEight header lowFirst fileOf twosComplement valuesBytes
 file-by-bytes κs args z w is frequency one room =
     let buffer = now (args .1 .1 .0) in
     let nothing = one-value-unrefused (length buffer) room in

@@ -22,8 +22,8 @@ use Rattle.plot.specs.Drawn.{drawnNumber}
 use Rattle.noise.specs.Noise.{alphaOf, kappaOf, noiseOf, noiseRefusal, noiseAnswer, toldAlpha, typeAnswer}
 use Rattle.noise.specs.Bars.{barWidth, barHalf, barsRefusal, barOf, barsAnswer}
 use Rattle.phr.specs.Bytes.{lowFirst, twosComplement, valuesBytes}
-use Rattle.phr.specs.File.{header, fileOf, mostValues, valueInRange}
-use Rattle.phr.specs.Writing.{writeRefusal}
+use Rattle.phr.specs.File.{firstEight, header, fileOf, mostValues, valueInRange, valuesRefusal}
+use Rattle.phr.specs.Writing.{roomRefusal, writeRefusal}
 use Rattle.sums.proofs.allan_sum.Reads as allan-sum
 use Rattle.sums.proofs.allan_sum.Kinds as allan-sum-kinds
 use Rattle.sums.proofs.modified_sum.Reads as modified-sum
@@ -51,7 +51,7 @@ use Rattle.phr.proofs.write_file.Kinds as write-file-kinds
 use Rattle.acceptance.specs.Figures.{Starred}
 
 pub starred-figures : Starred
-unfolding sum sumℤ tabulate firstFailing bitByBit inRange rangeRefusal sizeRefusal recordRefusal countAnswer bufferLeft phasesFrom phases firstLeaving phaseRefusal startRefusal driftH driftP driftR driftRefusal driftAnswer floored withoutDrift removalRefusal difference allanCount allanSum allanDenominator windowSum modifiedCount modifiedSum timeDenominator euclid gcd deviation sumAnswer allanSumAnswer modifiedSumAnswer figureRefusal fractionAnswer allanFractionAnswer timeFractionAnswer deviationAnswer allanDeviationAnswer alphaOf kappaOf noiseOf noiseRefusal noiseAnswer toldAlpha typeAnswer barWidth barHalf barsRefusal barOf barsAnswer drawnNumber round lowFirst twosComplement valuesBytes header fileOf mostValues valueInRange writeRefusal
+unfolding sum sumℤ tabulate firstFailing bitByBit inRange rangeRefusal sizeRefusal recordRefusal countAnswer bufferLeft phasesFrom phases firstLeaving phaseRefusal startRefusal driftH driftP driftR driftRefusal driftAnswer floored withoutDrift removalRefusal difference allanCount allanSum allanDenominator windowSum modifiedCount modifiedSum timeDenominator euclid gcd deviation sumAnswer allanSumAnswer modifiedSumAnswer figureRefusal fractionAnswer allanFractionAnswer timeFractionAnswer deviationAnswer allanDeviationAnswer alphaOf kappaOf noiseOf noiseRefusal noiseAnswer toldAlpha typeAnswer barWidth barHalf barsRefusal barOf barsAnswer drawnNumber round lowFirst twosComplement valuesBytes firstEight header fileOf mostValues valueInRange valuesRefusal roomRefusal writeRefusal
 starred-figures = record {
   squares-at-1 = (refl, refl);
   squares-deviation = refl;

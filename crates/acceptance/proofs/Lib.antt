@@ -3,6 +3,7 @@ pub mod RecordGrounds
 pub mod TypeGrounds
 pub mod MeterGrounds
 pub mod FileGrounds
+pub mod VersionGrounds
 pub mod FigureGrounds
 pub mod BufferGrounds
 pub mod ReadingGrounds

@@ -401,7 +401,7 @@ module _ (bytes : List ℕ) (room : ℕ) (all : AreBytes bytes) where
   reads-every-file file = rw (accepted-exactly bytes room all .1 file) refl
 
 -- what a file may hold is not refused where there is room for the file
-pub proper-writable : {kind : ℕ} {values : List ℤ} {room : ℕ} → Proper kind values → 8 + 8 * length values ≤ room → Writable kind values room
+pub proper-writable : {kind : ℕ} {values : List ℤ} {room : ℕ} → Proper kind values → 8 + 8 * length values ≤ room → Writable 8 kind values room
 proper-writable proper enough = record { known = proper .known; few = proper .few; enough = enough; in-range = proper .in-range }
 
 module _ (kind : ℕ) (values : List ℤ) where

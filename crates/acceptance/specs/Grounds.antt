@@ -8,7 +8,7 @@ use mathlib.Core.Logic.{_⊎_}
 use Prim.Native.Nat.{ℕ, _+_, _-_, _*_, _%_, _^_, _≤_, _<_}
 use lib.Ieee.{Float, nan, inf}
 use lib.Ieee.Exact.{HasValue}
-use lib.IntN.{ℤ, natAbs, _+ℤ_}
+use lib.IntN.{ℤ, pos, natAbs, _+ℤ_}
 use lib.ListN.{length, getD}
 use Rattle.laws.specs.Greatest.{Greatest}
 use Rattle.laws.specs.Lists.{at}
@@ -18,7 +18,7 @@ use Rattle.variances.specs.Deviations.{within}
 use Rattle.drift.specs.Drift.{withoutDrift}
 use Rattle.meter.specs.declared.Meter.{Meter}
 use Rattle.phr.specs.Bytes.{valueAt}
-use Rattle.phr.specs.Reading.{kindOf, countOf}
+use Rattle.phr.specs.Reading.{kindOf, countOf, headLength, startOf}
 
 -- ---- what a table says of an answer
 
@@ -222,14 +222,24 @@ TooMany kind count = ((kind ≡ 0) × (32768 < count)) ⊎ ((kind ≡ 1) × (327
 abbrev pub FarValue : ℕ → ℤ → Type 0
 FarValue kind z = ((kind ≡ 0) × (2 ^ 40 < natAbs z)) ⊎ ((kind ≡ 1) × (2 ^ 41 < natAbs z))
 
--- a byte b at place k of the header is right: "PHR", version 1 in two bytes, the kind; a count's bytes always are
-abbrev pub Right : ℕ → ℕ → Type 0
-Right k b = (k ≡ 0 → b ≡ 0x50) × (k ≡ 1 → b ≡ 0x48) × (k ≡ 2 → b ≡ 0x52) × (k ≡ 3 → b ≡ 1) × (k ≡ 4 → b ≡ 0) × (k ≡ 5 → b ≤ 1)
+-- a byte b at place k of the first eight is right: "PHR", a version that is known in two bytes, the kind; a count's bytes always are
+abbrev pub Right : (ℕ → Type 0) → ℕ → ℕ → Type 0
+Right Known k b = (k ≡ 0 → b ≡ 0x50) × (k ≡ 1 → b ≡ 0x48) × (k ≡ 2 → b ≡ 0x52) × (k ≡ 3 → Known b) × (k ≡ 4 → b ≡ 0) × (k ≡ 5 → b ≤ 1)
+
+-- the version is known to read_file, to read_record
+abbrev pub FirstVersion : ℕ → Type 0
+FirstVersion b = b ≡ 1
+
+abbrev pub EitherVersion : ℕ → Type 0
+EitherVersion b = (b ≡ 1) ⊎ (b ≡ 2)
+
+-- byte k of the first eight is wrong
+abbrev pub WrongByte : (ℕ → Type 0) → List ℕ → ℕ → Type 0
+WrongByte Known bytes k = Right Known k (getD bytes k 0) → ⊥
 
 module _ (bytes : List ℕ) (room : ℕ) where
-  -- byte k of the header is wrong
   abbrev pub Wrong : ℕ → Type 0
-  Wrong k = Right k (getD bytes k 0) → ⊥
+  Wrong k = WrongByte FirstVersion bytes k
 
   -- read_file, up to the count: among the header's bytes that are there, then the length if that is under 8
   pub data OfHeader : ℕ → ℕ → Type 0 where
@@ -245,6 +255,27 @@ module _ (bytes : List ℕ) (room : ℕ) where
     no-room : NoRow OfHeader → length bytes ≡ 8 + 8 * countOf bytes → room < countOf bytes → OfFile 6 0
     range : {i : ℕ} → NoRow OfHeader → length bytes ≡ 8 + 8 * countOf bytes → countOf bytes ≤ room → First (countOf bytes) (λ k. FarValue (kindOf bytes) (valueAt bytes (8 + 8 * k))) i → OfFile 3 i
 
+  -- read_record, up to the count: among the first eight bytes that are there, then the length if that is under the header's, 8 in version 1 and 16 in
+  -- version 2, then the start, which is 0 where the kind is
+  abbrev pub WrongEither : ℕ → Type 0
+  WrongEither k = WrongByte EitherVersion bytes k
+
+  pub data OfRecordHeader : ℕ → ℕ → Type 0 where
+    wrong : {i : ℕ} → First (length bytes) WrongEither i → OfRecordHeader 9 i
+    short : None (length bytes) WrongEither → length bytes < headLength bytes → OfRecordHeader 9 (length bytes)
+    started : None (length bytes) WrongEither → headLength bytes ≤ length bytes → kindOf bytes ≡ 0 → (startOf bytes ≡ pos 0 → ⊥) → OfRecordHeader 9 8
+    many : None (length bytes) WrongEither → headLength bytes ≤ length bytes → (kindOf bytes ≡ 0 → startOf bytes ≡ pos 0) → TooMany (kindOf bytes) (countOf bytes) → OfRecordHeader 2 0
+
+  -- read_record: 9 at the shorter of the true and the right length; 3 for the start before 3 for a value
+  pub data OfRecordFile : ℕ → ℕ → Type 0 where
+    header : {n p : ℕ} → OfRecordHeader n p → OfRecordFile n p
+    too-short : NoRow OfRecordHeader → length bytes < headLength bytes + 8 * countOf bytes → OfRecordFile 9 (length bytes)
+    too-long : NoRow OfRecordHeader → headLength bytes + 8 * countOf bytes < length bytes → OfRecordFile 9 (headLength bytes + 8 * countOf bytes)
+    no-room : NoRow OfRecordHeader → length bytes ≡ headLength bytes + 8 * countOf bytes → room < countOf bytes → OfRecordFile 6 0
+    far-start : NoRow OfRecordHeader → length bytes ≡ headLength bytes + 8 * countOf bytes → countOf bytes ≤ room → 2 ^ 40 < natAbs (startOf bytes) → OfRecordFile 3 0
+    range : {i : ℕ} → NoRow OfRecordHeader → length bytes ≡ headLength bytes + 8 * countOf bytes → countOf bytes ≤ room → natAbs (startOf bytes) ≤ 2 ^ 40 →
+        First (countOf bytes) (λ k. FarValue (kindOf bytes) (valueAt bytes (headLength bytes + 8 * k))) i → OfRecordFile 3 i
+
 -- write_file
 pub data OfWriting (kind : ℕ) (values : List ℤ) (room : ℕ) : ℕ → ℕ → Type 0 where
   no-kind : 1 < kind → OfWriting kind values room 9 5
@@ -252,3 +283,14 @@ pub data OfWriting (kind : ℕ) (values : List ℤ) (room : ℕ) : ℕ → ℕ �
   no-room : kind ≤ 1 → (TooMany kind (length values) → ⊥) → room < 8 + 8 * length values → OfWriting kind values room 6 0
   range : {i : ℕ} → kind ≤ 1 → (TooMany kind (length values) → ⊥) → 8 + 8 * length values ≤ room →
       First (length values) (λ k. FarValue kind (at values k)) i → OfWriting kind values room 3 i
+
+-- write_record
+pub data OfWritingFrom (kind : ℕ) (start : ℤ) (values : List ℤ) (room : ℕ) : ℕ → ℕ → Type 0 where
+  no-kind : 1 < kind → OfWritingFrom kind start values room 9 5
+  started : kind ≡ 0 → (start ≡ pos 0 → ⊥) → OfWritingFrom kind start values room 9 8
+  many : (kind ≡ 0 → start ≡ pos 0) → TooMany kind (length values) → OfWritingFrom kind start values room 2 0
+  no-room : kind ≤ 1 → (kind ≡ 0 → start ≡ pos 0) → (TooMany kind (length values) → ⊥) → room < 16 + 8 * length values → OfWritingFrom kind start values room 6 0
+  far-start : kind ≤ 1 → (kind ≡ 0 → start ≡ pos 0) → (TooMany kind (length values) → ⊥) → 16 + 8 * length values ≤ room → 2 ^ 40 < natAbs start →
+      OfWritingFrom kind start values room 3 0
+  range : {i : ℕ} → kind ≤ 1 → (kind ≡ 0 → start ≡ pos 0) → (TooMany kind (length values) → ⊥) → 16 + 8 * length values ≤ room → natAbs start ≤ 2 ^ 40 →
+      First (length values) (λ k. FarValue kind (at values k)) i → OfWritingFrom kind start values room 3 i

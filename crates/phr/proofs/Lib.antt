@@ -6,6 +6,7 @@ pub mod RangeSearch
 pub mod RangePass
 pub mod HeaderLaws
 pub mod ValueCases
+pub mod StartCases
 pub mod ReadCases
 pub mod WriteCases
 pub mod AnswerCases

@@ -27,6 +27,7 @@ use Rattle.phr.proofs.ByteLaws.{bytes-joined}
 use Rattle.phr.proofs.RangeCases.{in-range-fits}
 use Rattle.phr.proofs.ReadCases.{ReadableRecord, readable-record-none, unrefused-record, record-values-length, sound-within, most-values-bounded, header-wrong, first-eight-wrong, start-fit}
 use Rattle.phr.proofs.RoundTrip.{first-eight-bytes, kind-there, count-there, version-there, first-eight-sound, eight-present, passed, kind-passed, eight-there, values-there, accepted-exactly}
+use Rattle.phr.proofs.StartCases.{fit-passes, passes-fit}
 use Rattle.phr.proofs.WriteCases.{unrefused-from}
 use Rattle.phr.proofs.ValueLaws.{valueBytes, value-back, value-bytes-back, value-bytes-are-bytes, values-back, values-bytes-length, values-bytes-are-bytes}
 
@@ -48,14 +49,6 @@ second-version-refused bytes room long e₀ e₁ e₂ e₃ =
     stops (a ∷ b ∷ c ∷ d ∷ rest) long e₀ e₁ e₂ e₃ = rw (e₀, e₁, e₂, e₃)
 
 -- ---- version 1, for the reader of either
-
-pub nought-fits : (kind : ℕ) → startFits kind (pos 0) ≡ true
-unfolding startFits
-nought-fits kind = by-kind (eqb kind 0)
-  where
-    by-kind : (phase : Bool) → cond phase true true ≡ true
-    by-kind true = refl
-    by-kind false = refl
 
 module _ (bytes : List ℕ) (first : versionOf bytes ≡ 2 → ⊥) where
   pub first-head : headLength bytes ≡ 8
@@ -92,7 +85,7 @@ module _ (bytes : List ℕ) (first : versionOf bytes ≡ 2 → ⊥) where
       by-sound true t = first-eight-wrong bytes (omega (arith, same-sound, ltb-true (soundUpTo headerTests bytes) 8 t)) ∙ ap (refused 9) same-sound
       by-sound false t =
           let sound : 8 ≤ soundUpTo eitherTests bytes = omega (arith, same-sound, ltb-false (soundUpTo headerTests bytes) 8 t) in
-          start-fit bytes sound (omega (arith, first-head, sound-within eitherTests bytes)) (rw first-start (nought-fits (kindOf bytes)))
+          start-fit bytes sound (omega (arith, first-head, sound-within eitherTests bytes)) (fit-passes (kindOf bytes) (startOf bytes) (λ phase. first-start))
 
   -- it is refused, or not, as the reader of version 1 alone refuses it
   pub as-first-version : (room : ℕ) → readRecordRefusal bytes room ≡ readRefusal bytes room
@@ -124,26 +117,9 @@ pub file-from-length : (kind : ℕ) (start : ℤ) (values : List ℤ) → length
 unfolding fileFrom headerFrom firstEight lowFirst
 file-from-length kind start values = omega (arith, values-bytes-length values)
 
--- a start that a kind may have, as the tests say it
-module _ (kind : ℕ) (start : ℤ) where
-  pub proper-fits : ProperStart kind start → startFits kind start ≡ true
-  unfolding startFits
-  proper-fits p = by-kind (eqb kind 0) refl
-    where
-      by-kind : (phase : Bool) → eqb kind 0 ≡ phase → cond phase (eqb (natAbs start) 0) true ≡ true
-      by-kind true t = rw (p .of-phase (eqb-true kind 0 t)) refl
-      by-kind false t = refl
-
-  pub fits-proper : startFits kind start ≡ true → inRange start ≡ true → ProperStart kind start
-  unfolding startFits
-  fits-proper fits near = record {
-    in-range = sample-bounded start near;
-    of-phase = λ phase. size-nought start (eqb-true (natAbs start) 0 (rw (eq-eqb kind 0 phase) at fits));
-  }
-    where
-      size-nought : (z : ℤ) → natAbs z ≡ 0 → z ≡ pos 0
-      size-nought (pos n) e = ap pos e
-      size-nought (negsuc n) e = absurd (omega arith)
+-- a start that passes its two tests is one that a file may hold
+fits-proper : (kind : ℕ) (start : ℤ) → startFits kind start ≡ true → inRange start ≡ true → ProperStart kind start
+fits-proper kind start fits near = record { in-range = sample-bounded start near; of-phase = passes-fit kind start fits }
 
 module _ (kind : ℕ) (start : ℤ) (values : List ℤ) (proper : Proper kind values) (proper-start : ProperStart kind start) where
   -- the first eight bytes and the rest
@@ -191,7 +167,7 @@ module _ (kind : ℕ) (start : ℤ) (values : List ℤ) (proper : Proper kind va
     header = record {
       sound = omega (arith, from-sound);
       present = omega (arith, head-is, file-from-length kind start values);
-      start-fits = rw (kind-comes-back-from, start-comes-back) (proper-fits kind start proper-start);
+      start-fits = rw (kind-comes-back-from, start-comes-back) (fit-passes kind start (proper-start .of-phase));
     };
     counted = record {
       few = rw (kind-comes-back-from, count-comes-back-from) (proper .few);

@@ -54,13 +54,13 @@ module _ (kind : ℕ) (values : List ℤ) (room : ℕ) where
   unfolding writeRefusal
   no-such-kind h = simp (lt-leb kind 1 h)
 
-  pub kind-known : kind ≤ 1 → writeRefusal kind values room ≡ (roomRefusal 8 kind (length values) room then valuesRefusal kind values)
+  pub kind-passes : kind ≤ 1 → writeRefusal kind values room ≡ (roomRefusal 8 kind (length values) room then valuesRefusal kind values)
   unfolding writeRefusal
-  kind-known h = simp (le-leb kind 1 h)
+  kind-passes h = simp (le-leb kind 1 h)
 
   pub writable-none : Writable 8 kind values room → writeRefusal kind values room ≡ none
   writable-none w =
-      kind-known (w .known) ∙ rw (room-for-file 8 kind (length values) room (w .few) (w .enough)) (in-range-none kind values (w .in-range))
+      kind-passes (w .known) ∙ rw (room-for-file 8 kind (length values) room (w .few) (w .enough)) (in-range-none kind values (w .in-range))
 
   pub unrefused-writable : writeRefusal kind values room .number ≡ 0 → Writable 8 kind values room
   unfolding writeRefusal

@@ -47,6 +47,10 @@ use Rattle.ploegelster.proofs.files.plg_read_file.Reads as plg-read-fil
 use Rattle.ploegelster.proofs.files.plg_read_file.Kinds as plg-read-file-kinds
 use Rattle.ploegelster.proofs.files.plg_write_file.Reads as plg-write-file
 use Rattle.ploegelster.proofs.files.plg_write_file.Kinds as plg-write-file-kinds
+use Rattle.ploegelster.proofs.files.plg_read_record.Reads as plg-read-record
+use Rattle.ploegelster.proofs.files.plg_read_record.Kinds as plg-read-record-kinds
+use Rattle.ploegelster.proofs.files.plg_write_record.Reads as plg-write-record
+use Rattle.ploegelster.proofs.files.plg_write_record.Kinds as plg-write-record-kinds
 
 -- ---- published
 
@@ -128,3 +132,9 @@ plg-read-file-single κs args z z′ w w′ first second = (first .0 ∙ sym (se
 
 pub plg-write-file-single : Single 2 plg-write-file-kinds.ps plg-write-file-kinds.r plg-write-file.Post
 plg-write-file-single κs args z z′ w w′ first second = (first .0 ∙ sym (second .0), λ i. (tt, (tt, ((first .1 ∙ sym (second .1)) i, tt))))
+
+pub plg-read-record-single : Single 2 plg-read-record-kinds.ps plg-read-record-kinds.r plg-read-record.Post
+plg-read-record-single κs args z z′ w w′ first second = (first .0 ∙ sym (second .0), λ i. (tt, ((first .1 ∙ sym (second .1)) i, tt)))
+
+pub plg-write-record-single : Single 2 plg-write-record-kinds.ps plg-write-record-kinds.r plg-write-record.Post
+plg-write-record-single κs args z z′ w w′ first second = (first .0 ∙ sym (second .0), λ i. (tt, (tt, (tt, ((first .1 ∙ sym (second .1)) i, tt)))))
