@@ -105,12 +105,17 @@ use Rattle.meter.proofs.Meter.sample.Reads as meter-sample
 use Rattle.meter.proofs.Meter.sample.Kinds as meter-sample-kinds
 use Rattle.meter.proofs.Meter.report.Reads as meter-report
 use Rattle.meter.proofs.Meter.report.Kinds as meter-report-kinds
-use Rattle.phr.proofs.Unique.{read-file-single, write-file-single}
+use Rattle.phr.proofs.Unique.{read-file-single, write-file-single, read-record-single, write-record-single}
 use Rattle.phr.proofs.RoundTrip.{file-length}
+use Rattle.phr.proofs.RecordRoundTrip.{file-from-length}
 use Rattle.phr.proofs.read_file.Reads as read-file
 use Rattle.phr.proofs.read_file.Kinds as read-file-kinds
 use Rattle.phr.proofs.write_file.Reads as write-file
 use Rattle.phr.proofs.write_file.Kinds as write-file-kinds
+use Rattle.phr.proofs.read_record.Reads as read-record
+use Rattle.phr.proofs.read_record.Kinds as read-record-kinds
+use Rattle.phr.proofs.write_record.Reads as write-record
+use Rattle.phr.proofs.write_record.Kinds as write-record-kinds
 use Rattle.ploegelster.proofs.Unique.{plg-allan-dot-single, plg-time-dot-single, plg-noise-type-single, plg-noise-of-record-single, plg-bars-single}
 use Rattle.ploegelster.specs.Boundary.{toldDot, toldNoise, barsByAlpha}
 use Rattle.ploegelster.proofs.Told.{type-by-alpha, alpha-of-none}
@@ -127,6 +132,8 @@ use Rattle.ploegelster.proofs.meters.plg_meter_sample.Reads as plg-meter-sample
 use Rattle.ploegelster.proofs.meters.plg_meter_report.Reads as plg-meter-report
 use Rattle.ploegelster.proofs.files.plg_read_file.Reads as plg-read-file
 use Rattle.ploegelster.proofs.files.plg_write_file.Reads as plg-write-file
+use Rattle.ploegelster.proofs.files.plg_read_record.Reads as plg-read-record
+use Rattle.ploegelster.proofs.files.plg_write_record.Reads as plg-write-record
 use Rattle.ploegelster.proofs.drawing.plg_drawn_number.Reads as plg-drawn-number
 use Rattle.ploegelster.proofs.drawing.plg_allan_dot.Reads as plg-allan-dot
 use Rattle.ploegelster.proofs.drawing.plg_allan_dot.Kinds as plg-allan-dot-kinds
@@ -143,7 +150,7 @@ use Rattle.ploegelster.proofs.drawing.plg_noise_of_record.Kinds as plg-noise-of
 use Rattle.ploegelster.proofs.drawing.plg_bars.Reads as plg-bars
 use Rattle.ploegelster.proofs.drawing.plg_bars.Kinds as plg-bars-kinds
 use Rattle.acceptance.specs.Noughts.{Refused, SumNought, PartsNought, PartsApart, DotNought, BarsNought}
-use Rattle.acceptance.proofs.NoughtLaws.{count-noughts, past-the-count, read-noughts, past-the-values, sum-noughts, float-noughts, float-part-noughts, past-the-samples, report-noughts, report-part-noughts, drift-noughts, meter-as-it-came, ring-as-it-came, other-slots-unchanged, own-slot-written, drawn-noughts, dot-noughts, told-dot-noughts, fraction-noughts, deviation-noughts, alpha-nought, bars-noughts, alpha-bars-noughts}
+use Rattle.acceptance.proofs.NoughtLaws.{count-noughts, past-the-count, read-noughts, past-the-values, record-noughts, past-the-record, sum-noughts, float-noughts, float-part-noughts, past-the-samples, report-noughts, report-part-noughts, drift-noughts, meter-as-it-came, ring-as-it-came, other-slots-unchanged, own-slot-written, drawn-noughts, dot-noughts, told-dot-noughts, fraction-noughts, deviation-noughts, alpha-nought, bars-noughts, alpha-bars-noughts}
 
 -- ---- wide: whole numbers of 128 bits; nothing is refused
 
@@ -362,6 +369,23 @@ pub write-file-past : Always 2 write-file-kinds.ps write-file-kinds.r write-file
     (λ κs args z w. let buffer = now (args .1 .1 .0) in let left = w .1 .1 .0 in (i : ℕ) (e : ℕ) → z .count ≤ i → getD left i e ≡ getD buffer i e)
 write-file-past κs args z w is = rw (is .0, is .1) (past-the-count _ _ _ _ (file-length _ _))
 
+pub read-record-settled : Settled 2 read-record-kinds.ps read-record-kinds.r read-record.Post
+    (λ κs args z w. let buffer = now (args .1 .0) in let left = w .1 .0 in
+    Refused (z .number) → (z .version ≡ 0) × (z .kind ≡ 0) × (z .start ≡ pos 0) × (z .count ≡ 0) × (left ≡ buffer))
+read-record-settled = (read-record-single, λ κs args z w is. rw (is .0, is .1) (record-noughts _ _))
+
+pub read-record-past : Always 2 read-record-kinds.ps read-record-kinds.r read-record.Post
+    (λ κs args z w. let buffer = now (args .1 .0) in let left = w .1 .0 in (i : ℕ) (e : ℤ) → z .count ≤ i → getD left i e ≡ getD buffer i e)
+read-record-past κs args z w is = rw (is .0, is .1) (past-the-record (now (args .0)) (now (args .1 .0)))
+
+pub write-record-settled : Settled 2 write-record-kinds.ps write-record-kinds.r write-record.Post
+    (λ κs args z w. let buffer = now (args .1 .1 .1 .0) in let left = w .1 .1 .1 .0 in Refused (z .number) → (z .count ≡ 0) × (left ≡ buffer))
+write-record-settled = (write-record-single, λ κs args z w is. rw (is .0, is .1) (count-noughts _ _ _ _))
+
+pub write-record-past : Always 2 write-record-kinds.ps write-record-kinds.r write-record.Post
+    (λ κs args z w. let buffer = now (args .1 .1 .1 .0) in let left = w .1 .1 .1 .0 in (i : ℕ) (e : ℕ) → z .count ≤ i → getD left i e ≡ getD buffer i e)
+write-record-past κs args z w is = rw (is .0, is .1) (past-the-count _ _ _ _ (file-from-length _ _ _))
+
 -- ---- ploegelster, the library that an app links: each contract is the entry's own (NAME-is), so that all that is said of the entry holds of it
 
 pub plg-allan-sum-is : plg-allan-sum.Post ≡ allan-sum.Post
@@ -473,3 +497,9 @@ plg-read-file-is = refl
 
 pub plg-write-file-is : plg-write-file.Post ≡ write-file.Post
 plg-write-file-is = refl
+
+pub plg-read-record-is : plg-read-record.Post ≡ read-record.Post
+plg-read-record-is = refl
+
+pub plg-write-record-is : plg-write-record.Post ≡ write-record.Post
+plg-write-record-is = refl

@@ -4,6 +4,7 @@
 use mathlib.Core.Path.{_≡_, refl, sym, _∙_}
 use mathlib.Core.Bool.{Bool}
 use mathlib.Core.List.{List, [], _∷_}
+use mathlib.Core.Logic.{_⊎_}
 use Prim.Native.Nat.{ℕ, _+_, _-_, _*_, _/_, _%_, _^_, _≤_, _<_}
 use native.Mathlib.Omega.{arith}
 use denote.Ref.{now}
@@ -80,14 +81,20 @@ use Rattle.noise.proofs.noise_of_record.Kinds as noise-of-record-kinds
 use Rattle.noise.proofs.bars.bars.Reads as bars
 use Rattle.noise.proofs.bars.bars.Kinds as bars-kinds
 use Rattle.phr.specs.Bytes.{lowFirst, twosComplement, valuesBytes}
-use Rattle.phr.specs.File.{firstEight, header, fileOf, IsFile, AreBytes}
+use Rattle.phr.specs.File.{firstEight, header, fileOf, fileFrom, IsFile, IsFileFrom, AreBytes}
+use Rattle.phr.specs.Reading.{readAnswer}
+use Rattle.phr.proofs.RecordRoundTrip.{second-version-refused, unrefused-proper-from}
 use Rattle.phr.proofs.read_file.Reads as read-file
 use Rattle.phr.proofs.read_file.Kinds as read-file-kinds
 use Rattle.phr.proofs.write_file.Reads as write-file
 use Rattle.phr.proofs.write_file.Kinds as write-file-kinds
+use Rattle.phr.proofs.read_record.Reads as read-record
+use Rattle.phr.proofs.read_record.Kinds as read-record-kinds
+use Rattle.phr.proofs.write_record.Reads as write-record
+use Rattle.phr.proofs.write_record.Kinds as write-record-kinds
 use Rattle.acceptance.specs.Figures.{sumIs, fractionIs, squares}
 use Rattle.acceptance.specs.Grounds
-use Rattle.acceptance.specs.Promises.{SumOf, PartsOf, Changed, FractionOf, BackAndForth, GivenBack, DotOf, ToldAs, TypeByTable, NoiseOf, HalfOf, BarsOf, DriftRemoved, ConstantDrift, ReadsBack}
+use Rattle.acceptance.specs.Promises.{SumOf, PartsOf, Changed, FractionOf, BackAndForth, GivenBack, DotOf, ToldAs, TypeByTable, NoiseOf, HalfOf, BarsOf, DriftRemoved, ConstantDrift, ReadsBack, RecordReadsBack, ReadAlike}
 use Rattle.acceptance.proofs.Grounding.{answered-none}
 use Rattle.acceptance.proofs.RecordGrounds.{record-agrees, multiple-agrees}
 use Rattle.acceptance.proofs.FigureGrounds.{fraction-agrees, deviation-agrees, dotted-none}
@@ -96,8 +103,9 @@ use Rattle.acceptance.proofs.ReadingGrounds.{readings-agree}
 use Rattle.acceptance.proofs.TypeGrounds.{type-agrees, bars-agree, alpha-within}
 use Rattle.acceptance.proofs.RecordTypeGrounds.{record-type-agrees}
 use Rattle.acceptance.proofs.FileGrounds.{writing-agrees, reading-agrees}
-use Rattle.acceptance.proofs.Grounds.{allan-sum-grounds, modified-sum-grounds, allan-fraction-grounds, time-fraction-grounds, allan-deviation-grounds, time-deviation-grounds, phase-from-frequency-grounds, phase-from-start-grounds, frequency-from-phase-grounds, drift-figure-grounds, remove-drift-grounds, float-sums-grounds, drawn-number-grounds, allan-dot-grounds, time-dot-grounds, noise-type-grounds, noise-of-record-grounds, plg-noise-type-grounds, plg-noise-of-record-grounds, bars-grounds, plg-bars-grounds, read-file-grounds, write-file-grounds}
-use Rattle.acceptance.proofs.PromiseLaws.{allan-sum-of, modified-sum-of, phases-from-of, phases-left, phases-of, differences-of, differences-left, back-and-forth, record-given-back, readings-given-back, square-of-half, drift-of, divisor-some, result-of, drift-removed, one-result, same-slope, constant-slope, line-left, float-sums-of, one-nearest, unchanged-samples-of, whole-samples-of, reads-files-alone, reads-every-file, count-of, output-left, file-left, one-value-unrefused, written-proper, reads-back, drawn-of, dot-told, allan-dot-of, time-dot-of, allan-fraction-of, time-fraction-of, allan-deviation-of, time-deviation-of, allan-deviation-of-record, time-deviation-of-record, type-of, noise-of, bars-of, half-below-deviation, low-above-nought}
+use Rattle.acceptance.proofs.VersionGrounds.{record-writing-agrees, record-reading-agrees}
+use Rattle.acceptance.proofs.Grounds.{allan-sum-grounds, modified-sum-grounds, allan-fraction-grounds, time-fraction-grounds, allan-deviation-grounds, time-deviation-grounds, phase-from-frequency-grounds, phase-from-start-grounds, frequency-from-phase-grounds, drift-figure-grounds, remove-drift-grounds, float-sums-grounds, drawn-number-grounds, allan-dot-grounds, time-dot-grounds, noise-type-grounds, noise-of-record-grounds, plg-noise-type-grounds, plg-noise-of-record-grounds, bars-grounds, plg-bars-grounds, read-file-grounds, write-file-grounds, read-record-grounds, write-record-grounds}
+use Rattle.acceptance.proofs.PromiseLaws.{allan-sum-of, modified-sum-of, phases-from-of, phases-left, phases-of, differences-of, differences-left, back-and-forth, record-given-back, readings-given-back, square-of-half, drift-of, divisor-some, result-of, drift-removed, one-result, same-slope, constant-slope, line-left, float-sums-of, one-nearest, unchanged-samples-of, whole-samples-of, reads-files-alone, reads-every-file, count-of, output-left, file-left, one-value-unrefused, written-proper, reads-back, reads-records-alone, reads-every-record, file-from-left, record-reads-back, reads-alike, version-is-1, drawn-of, dot-told, allan-dot-of, time-dot-of, allan-fraction-of, time-fraction-of, allan-deviation-of, time-deviation-of, allan-deviation-of-record, time-deviation-of-record, type-of, noise-of, bars-of, half-below-deviation, low-above-nought}
 use Rattle.acceptance.proofs.Figures.{starred-figures}
 
 -- ---- the published sums: x the record, N its length, m the factor
@@ -483,6 +491,52 @@ files-alone-are-read κs args z w is all = (
   λ answered. reads-files-alone (now (args .0)) _ all (answered-none (reading-agrees _ _) (read-file-grounds κs args z w is) answered),
   λ file. rw (is .0) (reads-every-file _ _ all file),
 )
+
+-- ---- the record file of either version
+
+-- What is written is read: reading what an answered call wrote gives version 2, the kind, the start and the values back.
+pub record-read-of-written : Always 2 write-record-kinds.ps write-record-kinds.r write-record.Post
+    (λ κs args z w. let kind = args .0 in let start = args .1 .0 in let values = now (args .1 .1 .0) in let written = w .1 .1 .1 .0 in
+    z .number ≡ 0 → Always 2 read-record-kinds.ps read-record-kinds.r read-record.Post
+    (λ κs′ args′ z′ w′. let bytes = now (args′ .0) in let buffer = now (args′ .1 .0) in
+    bytes ≡ take (z .count) written → length values ≤ length buffer → RecordReadsBack 2 kind start values (w′ .1 .0) z′))
+record-read-of-written κs args z w is answered κs′ args′ z′ w′ is′ read room =
+    let kind = args .0 in
+    let start = args .1 .0 in
+    let values = now (args .1 .1 .0) in
+    let nothing = answered-none (record-writing-agrees _ _ _ _) (write-record-grounds κs args z w is) answered in
+    let proper = unrefused-proper-from kind start values _ nothing in
+    let written : now (args′ .0) ≡ fileFrom kind start values = read ∙ rw (is .0, is .1) (file-from-left kind start values (now (args .1 .1 .1 .0)) nothing) in
+    rw (is′ .0, is′ .1, written) (record-reads-back kind start values (now (args′ .1 .0)) (proper .0) (proper .1) room)
+
+-- Bytes are read exactly where they are a file of version 1 or a file of version 2, of a kind, a start and values in range, with room for these.
+pub records-alone-are-read : Always 2 read-record-kinds.ps read-record-kinds.r read-record.Post
+    (λ κs args z w. let bytes = now (args .0) in let buffer = now (args .1 .0) in
+    AreBytes bytes →
+    (z .number ≡ 0 → IsFile bytes (length buffer) ⊎ IsFileFrom bytes (length buffer)) × (IsFile bytes (length buffer) ⊎ IsFileFrom bytes (length buffer) → z .number ≡ 0))
+records-alone-are-read κs args z w is all = (
+  λ answered. reads-records-alone (now (args .0)) _ all (answered-none (record-reading-agrees _ _) (read-record-grounds κs args z w is) answered),
+  λ file. rw (is .0) (reads-every-record _ _ all file),
+)
+
+-- Bytes whose byte 3 is not 2, or that have none, are read or refused by both readers alike: the start is 0, and the version 1 where they are read.
+pub first-version-read-alike : Always 2 read-file-kinds.ps read-file-kinds.r read-file.Post
+    (λ κs args z w. let bytes = now (args .0) in let buffer = now (args .1 .0) in (getD bytes 3 0 ≡ 2 → ⊥) →
+    Always 2 read-record-kinds.ps read-record-kinds.r read-record.Post
+    (λ κs′ args′ z′ w′. now (args′ .0) ≡ bytes → now (args′ .1 .0) ≡ buffer → ReadAlike z (w .1 .0) z′ (w′ .1 .0) × (z′ .number ≡ 0 → z′ .version ≡ 1)))
+first-version-read-alike κs args z w is first κs′ args′ z′ w′ is′ same-bytes same-buffer = (
+  rw (is .0, is .1, is′ .0, is′ .1, same-bytes, same-buffer) (reads-alike (now (args .0)) first (now (args .1 .0))),
+  λ answered. let nothing = answered-none (record-reading-agrees _ _) (read-record-grounds κs′ args′ z′ w′ is′) answered in
+      rw (is′ .0) (version-is-1 (now (args′ .0)) (rw same-bytes first) _ nothing),
+)
+
+-- The reader of version 1 refuses version 2 at byte 3: bytes that begin with the mark and 02, whatever follows and however much.
+pub second-version-refused-at-3 : Always 2 read-file-kinds.ps read-file-kinds.r read-file.Post
+    (λ κs args z w. let bytes = now (args .0) in (rest : List ℕ) → bytes ≡ 0x50 ∷ 0x48 ∷ 0x52 ∷ 0x02 ∷ rest → (z .number ≡ 9) × (z .place ≡ 3))
+unfolding readAnswer
+second-version-refused-at-3 κs args z w is rest begins =
+    let refusal = second-version-refused (0x50 ∷ 0x48 ∷ 0x52 ∷ 0x02 ∷ rest) (length (now (args .1 .0))) (omega arith) refl refl refl refl in
+    rw (is .0, begins, refusal) (refl, refl)
 
 -- ---- the starred record 0 1 4 9 16 25 at m = 1: refusing everything, or giving 0/1 always, is shut out
 

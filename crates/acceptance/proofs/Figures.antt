@@ -22,8 +22,8 @@ use Rattle.plot.specs.Drawn.{drawnNumber}
 use Rattle.noise.specs.Noise.{alphaOf, kappaOf, noiseOf, noiseRefusal, noiseAnswer, toldAlpha, typeAnswer}
 use Rattle.noise.specs.Bars.{barWidth, barHalf, barsRefusal, barOf, barsAnswer}
 use Rattle.phr.specs.Bytes.{lowFirst, twosComplement, valuesBytes}
-use Rattle.phr.specs.File.{firstEight, header, fileOf, mostValues, valueInRange, valuesRefusal}
-use Rattle.phr.specs.Writing.{roomRefusal, writeRefusal}
+use Rattle.phr.specs.File.{firstEight, header, fileOf, headerFrom, fileFrom, mostValues, valueInRange, startFits, valuesRefusal}
+use Rattle.phr.specs.Writing.{roomRefusal, writeRefusal, writeRecordRefusal}
 use Rattle.sums.proofs.allan_sum.Reads as allan-sum
 use Rattle.sums.proofs.allan_sum.Kinds as allan-sum-kinds
 use Rattle.sums.proofs.modified_sum.Reads as modified-sum
@@ -48,10 +48,12 @@ use Rattle.noise.proofs.bars.bars.Reads as bars
 use Rattle.noise.proofs.bars.bars.Kinds as bars-kinds
 use Rattle.phr.proofs.write_file.Reads as write-file
 use Rattle.phr.proofs.write_file.Kinds as write-file-kinds
+use Rattle.phr.proofs.write_record.Reads as write-record
+use Rattle.phr.proofs.write_record.Kinds as write-record-kinds
 use Rattle.acceptance.specs.Figures.{Starred}
 
 pub starred-figures : Starred
-unfolding sum sumℤ tabulate firstFailing bitByBit inRange rangeRefusal sizeRefusal recordRefusal countAnswer bufferLeft phasesFrom phases firstLeaving phaseRefusal startRefusal driftH driftP driftR driftRefusal driftAnswer floored withoutDrift removalRefusal difference allanCount allanSum allanDenominator windowSum modifiedCount modifiedSum timeDenominator euclid gcd deviation sumAnswer allanSumAnswer modifiedSumAnswer figureRefusal fractionAnswer allanFractionAnswer timeFractionAnswer deviationAnswer allanDeviationAnswer alphaOf kappaOf noiseOf noiseRefusal noiseAnswer toldAlpha typeAnswer barWidth barHalf barsRefusal barOf barsAnswer drawnNumber round lowFirst twosComplement valuesBytes firstEight header fileOf mostValues valueInRange valuesRefusal roomRefusal writeRefusal
+unfolding sum sumℤ tabulate firstFailing bitByBit inRange rangeRefusal sizeRefusal recordRefusal countAnswer bufferLeft phasesFrom phases firstLeaving phaseRefusal startRefusal driftH driftP driftR driftRefusal driftAnswer floored withoutDrift removalRefusal difference allanCount allanSum allanDenominator windowSum modifiedCount modifiedSum timeDenominator euclid gcd deviation sumAnswer allanSumAnswer modifiedSumAnswer figureRefusal fractionAnswer allanFractionAnswer timeFractionAnswer deviationAnswer allanDeviationAnswer alphaOf kappaOf noiseOf noiseRefusal noiseAnswer toldAlpha typeAnswer barWidth barHalf barsRefusal barOf barsAnswer drawnNumber round lowFirst twosComplement valuesBytes firstEight header fileOf headerFrom fileFrom mostValues valueInRange startFits valuesRefusal roomRefusal writeRefusal writeRecordRefusal
 starred-figures = record {
   squares-at-1 = (refl, refl);
   squares-deviation = refl;
@@ -75,6 +77,7 @@ starred-figures = record {
   at-the-bound = (refl, refl);
   past-the-bound = (refl, refl);
   file = (refl, refl);
+  file-from = (refl, refl);
 }
 
 -- ---- whatever an entry's contract allows is what the rows compute
@@ -130,3 +133,9 @@ pub write-file-computes : Always 2 write-file-kinds.ps write-file-kinds.r write-
     (λ κs args z w. let kind = args .0 in let values = now (args .1 .0) in let buffer = now (args .1 .1 .0) in
     let r = writeRefusal kind values (length buffer) in (z ≡ countAnswer r (8 + 8 * length values)) × (w .1 .1 .0 ≡ bufferLeft r (fileOf kind values) buffer))
 write-file-computes κs args z w is = is
+
+pub write-record-computes : Always 2 write-record-kinds.ps write-record-kinds.r write-record.Post
+    (λ κs args z w. let kind = args .0 in let start = args .1 .0 in let values = now (args .1 .1 .0) in let buffer = now (args .1 .1 .1 .0) in
+    let r = writeRecordRefusal kind start values (length buffer) in
+    (z ≡ countAnswer r (16 + 8 * length values)) × (w .1 .1 .1 .0 ≡ bufferLeft r (fileFrom kind start values) buffer))
+write-record-computes κs args z w is = is

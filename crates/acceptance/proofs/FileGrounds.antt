@@ -13,8 +13,6 @@ use lib.ListN.{length, getD}
 use Rattle.laws.specs.Lists.{at, firstFailing}
 use Rattle.laws.proofs.ListLaws.{tabulate-entry}
 use Rattle.record.specs.Refusals.{refused, _then_}
-use Rattle.record.specs.Answers.{countAnswer}
-use Rattle.record.specs.declared.CountAnswer.{CountAnswer}
 use Rattle.record.specs.declared.Refusal.{Refusal}
 use Rattle.phr.specs.Bytes.{valueAt, valuesFrom}
 use Rattle.phr.specs.File.{mostValues, valueInRange, valuesRefusal}
@@ -351,8 +349,3 @@ module _ (kind : ℕ) (values : List ℤ) (room : ℕ) where
 
   pub writing-agrees : Agrees (OfWriting kind values room) (writeRefusal kind values room)
   writing-agrees = record { stands = writing-stands; decided = writing-decided }
-
-  pub writing-grounded : Grounded (OfWriting kind values room) (countAnswer (writeRefusal kind values room) (8 + 8 * length values) .number)
-      (countAnswer (writeRefusal kind values room) (8 + 8 * length values) .place)
-  unfolding countAnswer
-  writing-grounded = grounded-answer writing-agrees (λ (a : CountAnswer). a .number) (λ a. a .place) _ _ (refl, refl) (refl, refl)

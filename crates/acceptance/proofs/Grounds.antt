@@ -62,6 +62,10 @@ use Rattle.phr.proofs.read_file.Reads as read-file
 use Rattle.phr.proofs.read_file.Kinds as read-file-kinds
 use Rattle.phr.proofs.write_file.Reads as write-file
 use Rattle.phr.proofs.write_file.Kinds as write-file-kinds
+use Rattle.phr.proofs.read_record.Reads as read-record
+use Rattle.phr.proofs.read_record.Kinds as read-record-kinds
+use Rattle.phr.proofs.write_record.Reads as write-record
+use Rattle.phr.proofs.write_record.Kinds as write-record-kinds
 use Rattle.ploegelster.specs.Boundary.{toldDot, toldNoise}
 use Rattle.ploegelster.proofs.drawing.plg_noise_type.Reads as plg-noise-type
 use Rattle.ploegelster.proofs.drawing.plg_noise_type.Kinds as plg-noise-type-kinds
@@ -73,7 +77,7 @@ use Rattle.ploegelster.proofs.drawing.plg_time_dot.Reads as plg-time-dot
 use Rattle.ploegelster.proofs.drawing.plg_time_dot.Kinds as plg-time-dot-kinds
 use Rattle.ploegelster.proofs.drawing.plg_bars.Reads as plg-bars
 use Rattle.ploegelster.proofs.drawing.plg_bars.Kinds as plg-bars-kinds
-use Rattle.acceptance.specs.Grounds.{Grounded, OfRange, OfSize, OfRecord, OfFraction, OfDeviation, OfDot, OfPhases, OfPhasesFrom, OfDifferences, OfDrift, OfRemoval, OfReadings, OfRecordType, OfDrawn, OfType, OfBars, OfStart, OfSample, OfReport, OfFile, OfWriting}
+use Rattle.acceptance.specs.Grounds.{Grounded, OfRange, OfSize, OfRecord, OfFraction, OfDeviation, OfDot, OfPhases, OfPhasesFrom, OfDifferences, OfDrift, OfRemoval, OfReadings, OfRecordType, OfDrawn, OfType, OfBars, OfStart, OfSample, OfReport, OfFile, OfRecordFile, OfWriting, OfWritingFrom}
 use Rattle.acceptance.proofs.Grounding.{refusal-grounded}
 use Rattle.acceptance.proofs.RecordGrounds.{size-agrees, range-agrees, record-agrees, multiple-agrees, sum-grounded}
 use Rattle.acceptance.proofs.FigureGrounds.{fraction-agrees, deviation-agrees, fraction-grounded, deviation-grounded, dot-grounded}
@@ -82,7 +86,8 @@ use Rattle.acceptance.proofs.ReadingGrounds.{readings-grounded}
 use Rattle.acceptance.proofs.RecordTypeGrounds.{record-type-agrees}
 use Rattle.acceptance.proofs.TypeGrounds.{drawn-grounded, type-agrees, type-grounded, bars-grounded, alpha-bars-grounded}
 use Rattle.acceptance.proofs.MeterGrounds.{start-grounded, sample-grounded, report-grounded}
-use Rattle.acceptance.proofs.FileGrounds.{reading-grounded, writing-grounded}
+use Rattle.acceptance.proofs.FileGrounds.{reading-grounded, writing-agrees}
+use Rattle.acceptance.proofs.VersionGrounds.{record-reading-grounded, record-writing-agrees}
 
 -- ---- record
 
@@ -225,7 +230,16 @@ read-file-grounds κs args z w is = rw (is .0) (reading-grounded _ _)
 pub write-file-grounds : Always 2 write-file-kinds.ps write-file-kinds.r write-file.Post
     (λ κs args z w. let kind = args .0 in let values = now (args .1 .0) in let buffer = now (args .1 .1 .0) in
     Grounded (OfWriting kind values (length buffer)) (z .number) (z .place))
-write-file-grounds κs args z w is = rw (is .0) (writing-grounded _ _ _)
+write-file-grounds κs args z w is = rw (is .0) (count-grounded (writing-agrees _ _ _) _)
+
+pub read-record-grounds : Always 2 read-record-kinds.ps read-record-kinds.r read-record.Post
+    (λ κs args z w. let bytes = now (args .0) in let buffer = now (args .1 .0) in Grounded (OfRecordFile bytes (length buffer)) (z .number) (z .place))
+read-record-grounds κs args z w is = rw (is .0) (record-reading-grounded _ _)
+
+pub write-record-grounds : Always 2 write-record-kinds.ps write-record-kinds.r write-record.Post
+    (λ κs args z w. let kind = args .0 in let start = args .1 .0 in let values = now (args .1 .1 .0) in let buffer = now (args .1 .1 .1 .0) in
+    Grounded (OfWritingFrom kind start values (length buffer)) (z .number) (z .place))
+write-record-grounds κs args z w is = rw (is .0) (count-grounded (record-writing-agrees _ _ _ _) _)
 
 -- ---- ploegelster: the functions whose contract is not the entry's own
 

@@ -31,10 +31,11 @@ use Rattle.meter.specs.declared.Meter.{Meter}
 use Rattle.meter.specs.declared.MeterAnswer.{MeterAnswer}
 use Rattle.meter.proofs.TestLaws.{holds-together, slot-inside, ring-holds, let-in-by-number}
 use Rattle.meter.specs.declared.Report.{Report}
-use Rattle.phr.specs.Reading.{readRefusal, readAnswer, kindOf, valuesOf, countOf}
-use Rattle.phr.proofs.AnswerCases.{readBuffer}
-use Rattle.phr.proofs.ReadCases.{values-of-length}
+use Rattle.phr.specs.Reading.{readRefusal, readAnswer, kindOf, valuesOf, countOf, versionOf, startOf, recordValues, readRecordRefusal, readRecordAnswer}
+use Rattle.phr.proofs.AnswerCases.{readBuffer, recordBuffer}
+use Rattle.phr.proofs.ReadCases.{values-of-length, record-values-length}
 use Rattle.phr.specs.declared.ReadAnswer.{ReadAnswer}
+use Rattle.phr.specs.declared.RecordAnswer.{RecordAnswer}
 use Rattle.plot.specs.Drawn.{plusZero, drawnRefusal, drawnAnswer}
 use Rattle.plot.specs.Dots.{dotNumber, dotValue, dotAnswer}
 use Rattle.ploegelster.specs.Boundary.{dotKind, toldDot}
@@ -87,6 +88,26 @@ module _ (bytes : List ℕ) (buffer : List ℤ) where
           (record { number = r .number; place = r .place; kind = 0; count = 0 }) .count ≤ i →
           getD (cond t (written (valuesOf bytes) buffer) buffer) i e ≡ getD buffer i e
       by-number true past = written-past (valuesOf bytes) buffer i e (omega (arith, values-of-length bytes))
+      by-number false past = refl
+
+  -- of either version
+  pub record-noughts : let z = readRecordAnswer bytes (length buffer) in
+      Refused (z .number) → (z .version ≡ 0) × (z .kind ≡ 0) × (z .start ≡ pos 0) × (z .count ≡ 0) × (recordBuffer bytes buffer ≡ buffer)
+  unfolding readRecordAnswer bufferLeft
+  record-noughts some = rw (by-refusal (readRecordRefusal bytes (length buffer)) (λ nothing. rw nothing) some) (refl, refl, refl, refl, refl)
+
+  pub past-the-record : (i : ℕ) (e : ℤ) → readRecordAnswer bytes (length buffer) .count ≤ i → getD (recordBuffer bytes buffer) i e ≡ getD buffer i e
+  unfolding readRecordAnswer bufferLeft
+  past-the-record i e = by-number (eqb (r .number) 0)
+    where
+      r : Refusal
+      r = readRecordRefusal bytes (length buffer)
+
+      by-number : (t : Bool) →
+          cond {A = RecordAnswer} t (record { number = 0; place = 0; version = versionOf bytes; kind = kindOf bytes; start = startOf bytes; count = countOf bytes })
+          (record { number = r .number; place = r .place; version = 0; kind = 0; start = pos 0; count = 0 }) .count ≤ i →
+          getD (cond t (written (recordValues bytes) buffer) buffer) i e ≡ getD buffer i e
+      by-number true past = written-past (recordValues bytes) buffer i e (omega (arith, record-values-length bytes))
       by-number false past = refl
 
 -- ---- sums and answers of two parts

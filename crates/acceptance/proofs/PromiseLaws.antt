@@ -2,13 +2,13 @@
 use mathlib.Core.Path.{_≡_, refl, sym, ap, _∙_, subst}
 use mathlib.Core.Bool.{Bool, true, false, cond}
 use mathlib.Core.List.{List, [], _∷_}
-use mathlib.Core.Logic.{inl, inr}
+use mathlib.Core.Logic.{_⊎_, inl, inr}
 use Prim.Native.Nat.{ℕ, zero, suc, _+_, _-_, _*_, _/_, _%_, _^_, _≤_, _<_, _∣_}
 use native.Mathlib.Nat.{zero-add, mul-one, mul-le-mul}
 use native.Mathlib.Numerals.{one-add}
 use native.Mathlib.Omega.{arith}
 use borrow.Author.Tests.{le-leb, lt-leb, ltb-false}
-use lib.Dec.{T, leb}
+use lib.Dec.{T, leb, eqb}
 use lib.Ieee.{Float, nan}
 use lib.Ieee.Exact.{HasValue}
 use lib.Ieee.Nearest.{closest}
@@ -57,13 +57,15 @@ use Rattle.readings.proofs.AnswerLaws.{floatBuffer}
 use Rattle.readings.proofs.ReadingLaws.{sample-by-value, sample-nearest, nearest-is-sample, fraction-not-exact, sample-exact}
 use Rattle.readings.proofs.RefusalLaws.{samplesOf, samples-length, sample-at, samples-taken, unrefused-sample, unrefused-readings, unrefused-size}
 use Rattle.meter.proofs.Running.{publishedReport}
-use Rattle.phr.specs.File.{fileOf, mostValues, valueInRange, Proper, IsFile, AreBytes}
-use Rattle.phr.specs.Reading.{readRefusal, readAnswer, valuesOf}
-use Rattle.phr.proofs.AnswerCases.{readBuffer}
-use Rattle.phr.specs.Writing.{writeRefusal}
+use Rattle.phr.specs.File.{fileOf, fileFrom, mostValues, valueInRange, Proper, IsFile, ProperStart, IsFileFrom, AreBytes}
+use Rattle.phr.specs.Reading.{kindOf, countOf, readRefusal, readAnswer, valuesOf, versionOf, recordValues, readRecordRefusal, readRecordAnswer}
+use Rattle.phr.proofs.AnswerCases.{readBuffer, recordBuffer}
+use Rattle.phr.specs.Writing.{writeRefusal, writeRecordRefusal}
 use Rattle.phr.specs.declared.ReadAnswer.{ReadAnswer}
+use Rattle.phr.specs.declared.RecordAnswer.{RecordAnswer}
 use Rattle.phr.proofs.WriteCases.{Writable, writable-none, unrefused-writable}
 use Rattle.phr.proofs.RoundTrip.{accepted-exactly, buffer-has-file, file-is-read, file-answer, values-come-back}
+use Rattle.phr.proofs.RecordRoundTrip.{accepted-either, buffer-has-file-from, file-from-is-read, file-from-answer, values-come-back-from, as-first-version, first-start, first-values, first-version}
 use Rattle.plot.specs.Drawn.{GreatestDouble, drawnAnswer}
 use Rattle.plot.specs.Dots.{dotNumber, dotValue, dotAnswer}
 use Rattle.plot.specs.declared.dots.Dot.{Dot}
@@ -82,7 +84,7 @@ use Rattle.ploegelster.specs.Boundary.{dotKind, toldDot}
 use Rattle.acceptance.specs.Grounds
 use Rattle.acceptance.specs.Grounds.{NoRow, OfDrawn, OfBars}
 use Rattle.acceptance.specs.Promises
-use Rattle.acceptance.specs.Promises.{SumOf, PartsOf, Changed, FractionOf, BackAndForth, GivenBack, DotOf, ToldAs, TypeByTable, NoiseOf, Kappa, HalfOf, BarsOf, DriftRemoved, ConstantDrift, ReadsBack}
+use Rattle.acceptance.specs.Promises.{SumOf, PartsOf, Changed, FractionOf, BackAndForth, GivenBack, DotOf, ToldAs, TypeByTable, NoiseOf, Kappa, HalfOf, BarsOf, DriftRemoved, ConstantDrift, ReadsBack, RecordReadsBack, ReadAlike}
 use Rattle.acceptance.proofs.RecordGrounds.{outside-fails}
 
 -- ---- sums, of a record that is not refused
@@ -433,6 +435,66 @@ module _ (kind : ℕ) (values : List ℤ) where
         ap (λ (z : ReadAnswer). z .count) answer,
         ap (take (length values)) front ∙ take-at values _ (length values) refl,
       )
+
+-- ---- the record file of either version
+
+-- reading accepts files of both versions and nothing else
+module _ (bytes : List ℕ) (room : ℕ) (all : AreBytes bytes) where
+  pub reads-records-alone : readRecordRefusal bytes room ≡ none → IsFile bytes room ⊎ IsFileFrom bytes room
+  reads-records-alone = accepted-either bytes room all .0
+
+  pub reads-every-record : IsFile bytes room ⊎ IsFileFrom bytes room → readRecordAnswer bytes room .number ≡ 0
+  unfolding readRecordAnswer
+  reads-every-record file = rw (accepted-either bytes room all .1 file) refl
+
+module _ (kind : ℕ) (start : ℤ) (values : List ℤ) where
+  -- what writing leaves at the front of the buffer is the file
+  pub file-from-left : (buffer : List ℕ) → writeRecordRefusal kind start values (length buffer) ≡ none →
+      let r : Refusal = writeRecordRefusal kind start values (length buffer) in
+      take (countAnswer r (16 + 8 * length values) .count) (bufferLeft r (fileFrom kind start values) buffer) ≡ fileFrom kind start values
+  file-from-left buffer nothing =
+      ap (λ (z : CountAnswer). take (z .count) (bufferLeft (writeRecordRefusal kind start values (length buffer)) (fileFrom kind start values) buffer))
+      (count-given nothing (16 + 8 * length values) (fileFrom kind start values) buffer)
+      ∙ buffer-has-file-from kind start values buffer nothing
+
+  -- reading it gives version 2, the kind, the start and the values
+  pub record-reads-back : (buffer : List ℤ) → Proper kind values → ProperStart kind start → length values ≤ length buffer →
+      RecordReadsBack 2 kind start values (recordBuffer (fileFrom kind start values) buffer) (readRecordAnswer (fileFrom kind start values) (length buffer))
+  record-reads-back buffer proper proper-start room =
+      let nothing = file-from-is-read kind start values proper proper-start (length buffer) room in
+      let answer = file-from-answer kind start values proper proper-start (length buffer) room in
+      let left = output-left nothing (length values) (recordValues (fileFrom kind start values)) buffer in
+      let front : recordBuffer (fileFrom kind start values) buffer ≡ written values buffer =
+      left ∙ ap (λ (vs : List ℤ). written vs buffer) (values-come-back-from kind start values proper proper-start) in (
+        ap (λ (z : RecordAnswer). z .number) answer,
+        ap (λ (z : RecordAnswer). z .version) answer,
+        ap (λ (z : RecordAnswer). z .kind) answer,
+        ap (λ (z : RecordAnswer). z .start) answer,
+        ap (λ (z : RecordAnswer). z .count) answer,
+        ap (take (length values)) front ∙ take-at values _ (length values) refl,
+      )
+
+-- bytes whose byte 3 is not 2 are read, or refused, by both readers alike
+module _ (bytes : List ℕ) (first : getD bytes 3 0 ≡ 2 → ⊥) where
+  pub reads-alike : (buffer : List ℤ) → ReadAlike (readAnswer bytes (length buffer)) (readBuffer bytes buffer) (readRecordAnswer bytes (length buffer)) (recordBuffer bytes buffer)
+  unfolding versionOf readAnswer readRecordAnswer bufferLeft
+  reads-alike buffer =
+      rw (as-first-version bytes first (length buffer), first-start bytes first, first-values bytes first) (by-number (readRefusal bytes (length buffer)) (eqb (readRefusal bytes (length buffer) .number) 0))
+    where
+      by-number : (r : Refusal) (t : Bool) → ReadAlike
+          (cond t (record { number = 0; place = 0; kind = kindOf bytes; count = countOf bytes }) (record { number = r .number; place = r .place; kind = 0; count = 0 }))
+          (cond t (written (valuesOf bytes) buffer) buffer)
+          (cond t (record { number = 0; place = 0; version = getD bytes 3 0; kind = kindOf bytes; start = pos 0; count = countOf bytes })
+          (record { number = r .number; place = r .place; version = 0; kind = 0; start = pos 0; count = 0 }))
+          (cond t (written (valuesOf bytes) buffer) buffer)
+      by-number r true = record { number = refl; place = refl; kind = refl; count = refl; start = refl; buffer = refl }
+      by-number r false = record { number = refl; place = refl; kind = refl; count = refl; start = refl; buffer = refl }
+
+  pub version-is-1 : (room : ℕ) → readRecordRefusal bytes room ≡ none → readRecordAnswer bytes room .version ≡ 1
+  unfolding versionOf readRecordAnswer
+  version-is-1 room nothing = rw nothing (first-version bytes first room nothing)
+
+-- ---- a file of one value
 
 -- the file of one value that takes six bytes and is beyond a sample's range
 one-value-proper : Proper 1 (pos 0x10203040506 ∷ [])

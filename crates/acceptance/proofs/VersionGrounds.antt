@@ -11,10 +11,8 @@ use lib.IntN.{ℤ, pos, natAbs}
 use lib.ListN.{length, getD}
 use Rattle.laws.specs.Lists.{at}
 use Rattle.record.specs.Refusals.{none, refused, refusedIf, _then_, inRange}
-use Rattle.record.specs.Answers.{countAnswer}
-use Rattle.record.specs.declared.CountAnswer.{CountAnswer}
 use Rattle.record.specs.declared.Refusal.{Refusal}
-use Rattle.phr.specs.Bytes.{valueAt, valuesFrom}
+use Rattle.phr.specs.Bytes.{valueAt}
 use Rattle.phr.specs.File.{mostValues, startFits, valuesRefusal}
 use Rattle.phr.specs.Reading.{testsOf, soundUpTo, kindOf, countOf, countRefusal, eitherTests, headLength, startOf, recordValues, headerRefusal, readRecordRefusal, readRecordAnswer}
 use Rattle.phr.specs.Writing.{roomRefusal, writeRecordRefusal}

@@ -18,8 +18,8 @@ use Rattle.variances.specs.declared.FractionAnswer.{FractionAnswer}
 use Rattle.noise.specs.Noise.{toldAlpha, typeAnswer}
 use Rattle.noise.specs.Bars.{barsAnswer}
 use Rattle.noise.specs.declared.Noise.the-variants.{FlickerFrequency}
-use Rattle.phr.specs.File.{fileOf}
-use Rattle.phr.specs.Writing.{writeRefusal}
+use Rattle.phr.specs.File.{fileOf, fileFrom}
+use Rattle.phr.specs.Writing.{writeRefusal, writeRecordRefusal}
 
 -- ---- answers
 
@@ -92,5 +92,11 @@ pub record Starred : Type 0 where
   -- the whole file of phase samples 1, -1
   pub file : let xs : List ℤ = pos 1 ∷ negsuc 0 ∷ [] in Fills (writeRefusal 0 xs 24) 24 (fileOf 0 xs) (tabulate 24 (λ k. 0))
       (0x50 ∷ 0x48 ∷ 0x52 ∷ 0x01 ∷ 0x00 ∷ 0x00 ∷ 0x02 ∷ 0x00
+      ∷ 0x01 ∷ 0x00 ∷ 0x00 ∷ 0x00 ∷ 0x00 ∷ 0x00 ∷ 0x00 ∷ 0x00
+      ∷ 0xFF ∷ 0xFF ∷ 0xFF ∷ 0xFF ∷ 0xFF ∷ 0xFF ∷ 0xFF ∷ 0xFF ∷ [])
+  -- the whole file of frequency values 1, -1 from the start 5
+  pub file-from : let ys : List ℤ = pos 1 ∷ negsuc 0 ∷ [] in Fills (writeRecordRefusal 1 (pos 5) ys 32) 32 (fileFrom 1 (pos 5) ys) (tabulate 32 (λ k. 0))
+      (0x50 ∷ 0x48 ∷ 0x52 ∷ 0x02 ∷ 0x00 ∷ 0x01 ∷ 0x02 ∷ 0x00
+      ∷ 0x05 ∷ 0x00 ∷ 0x00 ∷ 0x00 ∷ 0x00 ∷ 0x00 ∷ 0x00 ∷ 0x00
       ∷ 0x01 ∷ 0x00 ∷ 0x00 ∷ 0x00 ∷ 0x00 ∷ 0x00 ∷ 0x00 ∷ 0x00
       ∷ 0xFF ∷ 0xFF ∷ 0xFF ∷ 0xFF ∷ 0xFF ∷ 0xFF ∷ 0xFF ∷ 0xFF ∷ [])

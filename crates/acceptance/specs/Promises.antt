@@ -23,6 +23,7 @@ use Rattle.plot.specs.declared.dots.Dot.{Dot}
 use Rattle.plot.specs.declared.dots.Dot.the-variants.{Drawn, Nought, TooFew}
 use Rattle.noise.specs.declared.bars.BarsAnswer.{BarsAnswer}
 use Rattle.phr.specs.declared.ReadAnswer.{ReadAnswer}
+use Rattle.phr.specs.declared.RecordAnswer.{RecordAnswer}
 use Rattle.acceptance.specs.Noughts.{DotNought}
 
 -- ---- sums
@@ -139,3 +140,17 @@ ConstantDrift a b c xs = (i : ℕ) → i < length xs → at xs i ≡ a +ℤ b *�
 -- what is read is the kind and the values
 abbrev pub ReadsBack : ℕ → List ℤ → List ℤ → ReadAnswer → Type 0
 ReadsBack kind values left z = (z .number ≡ 0) × (z .kind ≡ kind) × (z .count ≡ length values) × (take (length values) left ≡ values)
+
+-- of a file of either version, the version, the kind, the start and the values
+abbrev pub RecordReadsBack : ℕ → ℕ → ℤ → List ℤ → List ℤ → RecordAnswer → Type 0
+RecordReadsBack version kind start values left z =
+    (z .number ≡ 0) × (z .version ≡ version) × (z .kind ≡ kind) × (z .start ≡ start) × (z .count ≡ length values) × (take (length values) left ≡ values)
+
+-- both readers answer alike, and leave alike buffers: the one of version 1 alone, and the one of either version, for which the start is 0
+pub record ReadAlike (z : ReadAnswer) (left : List ℤ) (z′ : RecordAnswer) (left′ : List ℤ) : Type 0 where
+  pub number : z′ .number ≡ z .number
+  pub place : z′ .place ≡ z .place
+  pub kind : z′ .kind ≡ z .kind
+  pub count : z′ .count ≡ z .count
+  pub start : z′ .start ≡ pos 0
+  pub buffer : left′ ≡ left
