@@ -22,8 +22,10 @@ EMULATOR = os.environ.get("EMULATOR", "").split()
 END = 2**40
 
 
-def sound(kind, values):
-    return b"PHR" + struct.pack("<HBH", 1, kind, len(values)) + b"".join(struct.pack("<q", v) for v in values)
+def sound(kind, values, start=None):
+    """A file of version 1, or of version 2 where there is a start."""
+    head = [] if start is None else [start]
+    return b"PHR" + struct.pack("<HBH", 1 + len(head), kind, len(values)) + b"".join(struct.pack("<q", v) for v in head + values)
 
 
 def changed(data, place, byte):
@@ -31,6 +33,7 @@ def changed(data, place, byte):
 
 
 SQUARES = sound(0, [0, 1, 4, 9, 16, 25])
+STARTED = sound(1, [3, -1, 4], 5)
 FILES = {
     "squares.phr": SQUARES,
     "pulse.phr": sound(0, [0, 0, 0, 1, 0, 0, 0]),
@@ -47,6 +50,7 @@ FILES = {
     "empty.phr": b"",
     "mark.phr": changed(SQUARES, 1, 0x68),
     "version.phr": changed(SQUARES, 3, 2),
+    "version3.phr": changed(SQUARES, 3, 3),
     "version257.phr": changed(SQUARES, 4, 1),
     "kind.phr": changed(SQUARES, 5, 2),
     "header.phr": SQUARES[:7],
@@ -56,6 +60,17 @@ FILES = {
     "many.phr": changed(changed(SQUARES, 6, 1), 7, 0x80),
     "beyond.phr": sound(0, [0, END + 1, -END - 1]),
     "sign.phr": changed(SQUARES, 8 + 8 * 3 + 7, 0x80),
+    "started.phr": STARTED,
+    "started-low.phr": sound(1, [2 * END, -1, -2, -4, -8, -16], -END),
+    "started-none.phr": sound(1, [], END),
+    "started-steep.phr": sound(1, [0, 1], END),
+    "started-phase.phr": sound(0, [0, 1, 4, 9, 16, 25], 0),
+    "start-far.phr": sound(1, [0], -END - 1),
+    "start-of-phase.phr": sound(0, [1, 2], 256),
+    "start-cut.phr": STARTED[:15],
+    "started-cut.phr": STARTED[:-1],
+    "started-tail.phr": STARTED + b"\0",
+    "started-many.phr": changed(STARTED, 7, 0x80),
 }
 MISSING = "missing.phr"
 
@@ -77,34 +92,42 @@ def refused(number, place=0):
 
 
 def header(data):
-    """The lowest wrong byte among those present, else the length if short."""
-    tests = [lambda b, w=w: b == w for w in b"PHR\x01\x00"] + [lambda b: b <= 1]
-    for place, (test, byte) in enumerate(zip(tests, data)):
-        if not test(byte):
+    """The lowest wrong byte among the first eight that are present, else the length if the header is short."""
+    for place, (right, byte) in enumerate(zip((b"P", b"H", b"R", b"\1\2", b"\0", b"\0\1"), data)):
+        if byte not in right:
             return place
-    return len(data) if len(data) < 8 else None
+    return len(data) if len(data) < 8 or data[3] == 2 and len(data) < 16 else None
+
+
+def number_at(data, place):
+    return int.from_bytes(data[place:place + 8], "little", signed=True)
 
 
 def read(data):
-    """(number, place) where the file is refused, else (kind, values)."""
+    """(number, place) where the file is refused, else (version, kind, start, values)."""
     place = header(data)
     if place is not None:
         return (9, place), None
-    kind, count = data[5], int.from_bytes(data[6:8], "little")
+    version, kind, count = data[3], data[5], int.from_bytes(data[6:8], "little")
+    start = number_at(data, 8) if version == 2 else 0
+    if kind == 0 and start != 0:
+        return (9, 8), None
     if count > (32768 if kind == 0 else 32767):
         return (2, 0), None
-    right = 8 + 8 * count
+    right = 8 * (version + count)
     if len(data) != right:
         return (9, min(len(data), right)), None
-    values = [int.from_bytes(data[k:k + 8], "little", signed=True) for k in range(8, right, 8)]
+    if abs(start) > END:
+        return (3, 0), None
+    values = [number_at(data, k) for k in range(8 * version, right, 8)]
     for i, v in enumerate(values):
         if abs(v) > (END if kind == 0 else 2 * END):
             return (3, i), None
-    return None, (kind, values)
+    return None, (version, kind, start, values)
 
 
-def phases(readings):
-    total, out = 0, [0]
+def phases(start, readings):
+    total, out = start, [start]
     for i, y in enumerate(readings):
         total += y
         if abs(total) > END:
@@ -139,10 +162,11 @@ def line(name, folder=DATA):
     refusal, content = read(open(os.path.join(folder, name), "rb").read())
     if refusal:
         return f"{shown}: {refused(*refusal)}\n"
-    kind, values = content
-    text = f"{shown}: {('phase', 'frequency')[kind]}, {len(values)} value{'s' if len(values) != 1 else ''}"
+    version, kind, start, values = content
+    begun = f" from {start}" if version == 2 and kind == 1 else ""
+    text = f"{shown}: version {version}, {('phase', 'frequency')[kind]}{begun}, {len(values)} value{'s' if len(values) != 1 else ''}"
     if kind == 1:
-        refusal, values = phases(values)
+        refusal, values = phases(start, values)
         if refusal:
             return f"{text}; phases {refused(*refusal)}\n"
     return f"{text}{figures(values)}\n"
@@ -218,6 +242,9 @@ def long_records(room):
     files = {
         "longest.phr": sound(0, swing),
         "longest-readings.phr": sound(1, slope),
+        "longest-started.phr": sound(0, swing, 0),
+        "longest-started-readings.phr": sound(1, slope, -END),
+        "too-long-started.phr": sound(0, swing, 0) + b"\0",
         "too-long.phr": sound(0, swing) + b"\0",
         "too-many.phr": sound(0, swing + [0]),
         "too-many-readings.phr": sound(1, slope + [END]),
@@ -229,10 +256,11 @@ def long_records(room):
 
 
 def drawn(draw):
-    """A file by lot: small values and large ones, few and many; every third is damaged in a byte or cut off."""
+    """A file by lot, of either version: small values and large ones, few and many; every third is damaged in a byte or cut off."""
     kind, size = draw.randrange(2), 2 ** draw.randrange(1, 42)
     values = [draw.randint(-size, size) for _ in range(draw.randrange(40))]
-    data = sound(kind, values)
+    start = draw.choice([None, kind * draw.randint(-size, size)])
+    data = sound(kind, values, start)
     if draw.randrange(3) == 0:
         place = draw.randrange(len(data))
         data = changed(data, place, draw.randrange(256)) if draw.randrange(2) else data[:place]
@@ -245,7 +273,8 @@ def drawn_records(room):
     for name in names:
         room.write(name, drawn(draw))
     lines = [line(name, room.folder) for name in names]
-    for part in "phase, ", "frequency, ", "phases refused 3", "phr: refused 9", "phr: refused 3", "time deviation":
+    for part in ("version 1, phase, ", "version 1, frequency, ", "version 2, phase, ", "version 2, frequency from -", "phases refused 3",
+                 "phr: refused 9", "phr: refused 3", "time deviation"):
         same(f"{part!r} in drawn lines", any(part in text for text in lines), True)
     room.run("drawn records", names, lines, [])
 

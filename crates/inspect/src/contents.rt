@@ -3,6 +3,7 @@ use crate::line::ROOM;
 use crate::line::byte;
 use crate::line::millionths;
 use crate::line::number;
+use crate::line::signed;
 use crate::line::text;
 use crate::line::whole;
 use crate::line::written;
@@ -32,26 +33,40 @@ pub(crate) fn show(path: &[u8], bytes: &[u8]) {
     }
 }
 
-// The kind, the count and the figures, or the refusal.
+// The version, the kind, the count and the figures, or the refusal.
 fn contents(line: &mut [u8; ROOM], at: usize, bytes: &[u8]) -> usize {
     let mut values = [0i64; MOST];
-    let answer = phr::read_file(bytes, &mut values);
+    let answer = phr::read_record(bytes, &mut values);
     let by = answer.number;
     if by != 0 {
         return refused_at(line, at, by, answer.place);
     }
+    let at = text(line, at, b"version ");
+    let at = number(line, at, answer.version);
     let count = answer.count;
     if answer.kind == 0 {
-        let at = counted(line, at, b"phase, ", count);
+        let at = text(line, at, b", phase");
+        let at = counted(line, at, count);
         return phase(line, at, &values, count as usize);
     }
-    let at = counted(line, at, b"frequency, ", count);
-    readings(line, at, &values, count as usize)
+    let at = text(line, at, b", frequency");
+    let at = begun(line, at, answer.version, answer.start);
+    let at = counted(line, at, count);
+    readings(line, at, answer.start, &values, count as usize)
 }
 
-// The kind and the count.
-fn counted(line: &mut [u8; ROOM], at: usize, kind: &[u8], count: u64) -> usize {
-    let at = text(line, at, kind);
+// Where the phases of a frequency record begin, if the file says it.
+fn begun(line: &mut [u8; ROOM], at: usize, version: u64, start: i64) -> usize {
+    if version == 1 {
+        return at;
+    }
+    let at = text(line, at, b" from ");
+    signed(line, at, start)
+}
+
+// The count.
+fn counted(line: &mut [u8; ROOM], at: usize, count: u64) -> usize {
+    let at = text(line, at, b", ");
     let at = number(line, at, count);
     if count == 1 {
         return text(line, at, b" value");
@@ -59,14 +74,20 @@ fn counted(line: &mut [u8; ROOM], at: usize, kind: &[u8], count: u64) -> usize {
     text(line, at, b" values")
 }
 
-// The figures of the phases of the first readings. The count is never beyond the array; that is tested, not assumed.
-fn readings(line: &mut [u8; ROOM], at: usize, values: &[i64; MOST], count: usize) -> usize {
+// The figures of the phases of the first readings, from a start on. The count is never beyond the array; that is tested, not assumed.
+fn readings(
+    line: &mut [u8; ROOM],
+    at: usize,
+    start: i64,
+    values: &[i64; MOST],
+    count: usize,
+) -> usize {
     let all: &[i64] = values;
     let mut phases = [0i64; MOST];
     if all.len() < count {
         return at;
     }
-    let answer = frequency::phase_from_frequency(&all[0..count], &mut phases);
+    let answer = frequency::phase_from_start(start, &all[0..count], &mut phases);
     let by = answer.number;
     if by != 0 {
         let at = text(line, at, b"; phases ");

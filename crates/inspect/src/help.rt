@@ -26,8 +26,10 @@ pub(crate) fn help() {
 
 Reads record files and writes a line for each, in one piece, to standard output:
 
-  NAME: phase, N values; FIGURES
-  NAME: frequency, N values; FIGURES of the phases that the readings add up to
+  NAME: version 1, phase, N values; FIGURES
+  NAME: version 1, frequency, N values; FIGURES of the phases that the readings add up to
+  NAME: version 2, phase, N values; FIGURES
+  NAME: version 2, frequency from S, N values; FIGURES of the phases that begin at S
   NAME: REFUSAL
 
 FIGURES are, with a REFUSAL in the place of each that there is not:
@@ -44,6 +46,8 @@ byte of the file is at fault, its place, counted from 0:
 
   refused 3, a value outside its range, at index 1
   refused 9, bad bytes or a bad length in a file, at byte 55
+
+A starting phase S outside its range is a value at index 0 too.
 
 A file that cannot be opened or read has no line; standard error says why. A control
 character in a name is shown as ?. A program cannot set an exit status today, so that

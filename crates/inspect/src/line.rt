@@ -35,6 +35,15 @@ pub(crate) fn number(line: &mut [u8; ROOM], at: usize, n: u64) -> usize {
     whole(line, at, Wide { hi: 0, lo: n }, 1)
 }
 
+// A number in decimal digits, with a sign if it is below nought.
+pub(crate) fn signed(line: &mut [u8; ROOM], at: usize, z: i64) -> usize {
+    if z < 0 {
+        let at = byte(line, at, b'-');
+        return number(line, at, size(z));
+    }
+    number(line, at, size(z))
+}
+
 // A number of 128 bits in decimal digits, with noughts in front up to so many.
 pub(crate) fn whole(line: &mut [u8; ROOM], at: usize, n: Wide, least: usize) -> usize {
     let mut digits = [0u8; DIGITS];
@@ -100,6 +109,14 @@ fn from(line: &mut [u8; ROOM], at: usize, digits: &[u8; DIGITS], first: usize) -
         return text(line, at, &all[first..]);
     }
     at
+}
+
+// A number without its sign.
+fn size(z: i64) -> u64 {
+    if z < 0 {
+        return std::num::wrapping_add_u64((0 - (z + 1)) as u64, 1);
+    }
+    z as u64
 }
 
 // The last digit of a number.

@@ -1,13 +1,13 @@
-// Reads record files that its arguments name, and writes for each a line with its kind, its count and its figures, or what it is refused for. A
-// frequency record is turned into phase first. What is read is worked by the library; this program opens, reads and prints.
+// Reads record files of either version that its arguments name, and writes for each a line with its version, its kind, its count and its figures, or
+// what it is refused for. A frequency record is turned into phase first, from its start. What is read is worked by the library; this program opens, reads and prints.
 mod contents;
 mod help;
 mod line;
 mod trouble;
 mod words;
 
-// The longest sound file has 262,152 bytes, so that one byte more tells a longer one.
-const LONGEST: usize = 262153;
+// The longest sound file, of version 2, has 262,160 bytes, so that one byte more tells a longer one.
+const LONGEST: usize = 262161;
 
 fn main() {
     let count = os::arg_count();
