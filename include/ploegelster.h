@@ -323,11 +323,10 @@ plg_count_answer plg_write_file(uint64_t kind, const int64_t *values, size_t val
 
 /**
  * Reads the values of a file of either version into the buffer. The starting phase of version 1 is 0. The phases of a frequency record are those of
- * plg_phase_from_start with the start that is answered here.
+ * plg_phase_from_start with the start that is answered here. A refusal at place 0 for its range is the start's or the first value's.
  * Refuses 9 (at the lowest wrong byte of the first eight, else at the length where the header is short, which has 16 bytes in version 2, else at
  * place 8 where the kind is 0 and the start is not 0), 2 (too many values for the kind), 9 (at the shorter of the true and the right length), 6 (buffer
- * below the count), 3 (start outside the sample range, at place 0), 3 (at the index of the first value outside its range). A 3 at place 0 may be the
- * start's or the first value's.
+ * below the count), 3 (start outside the sample range, at place 0), 3 (at the index of the first value outside its range).
  */
 plg_record_answer plg_read_record(const uint8_t *bytes, size_t bytes_length, int64_t *buffer, size_t buffer_length);
 

@@ -83,7 +83,8 @@ pub fn read_file(bytes: &[u8], buffer: &mut [i64]) -> Result<Contents, Refusal> 
 ///
 /// Refuses 9 (at the lowest wrong byte of the first eight, else at the length where the header is short, which has 16 bytes in version 2, else at
 /// place 8 where the kind is 0 and the start is not 0), 2 (too many values for the kind), 9 (at the shorter of the true and the right length), 6
-/// (buffer below the count), 3 (start outside the sample range, at place 0), 3 (at the index of the first value outside its range).
+/// (buffer below the count), 3 (start outside the sample range, at place 0), 3 (at the index of the first value outside its range). A 3 at place 0 is
+/// the start's or the first value's.
 pub fn read_record(bytes: &[u8], buffer: &mut [i64]) -> Result<Record, Refusal> {
     let answer = unsafe { boundary::plg_read_record(bytes.as_ptr(), bytes.len(), buffer.as_mut_ptr(), buffer.len()) };
     answered(answer.number, answer.place)?;

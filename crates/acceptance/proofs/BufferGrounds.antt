@@ -12,7 +12,7 @@ use Rattle.record.specs.Answers.{countAnswer}
 use Rattle.record.specs.declared.Refusal.{Refusal}
 use Rattle.record.specs.declared.CountAnswer.{CountAnswer}
 use Rattle.record.proofs.RangeLaws.{sample-bounded, bounded-sample}
-use Rattle.frequency.specs.Frequency.{firstLeaving, phaseRefusal, startRefusal, frequencyRefusal}
+use Rattle.frequency.specs.Frequency.{firstLeaving, phaseRefusal, phaseRefusalFrom, frequencyRefusal}
 use Rattle.frequency.proofs.FrequencyLaws.{running, later, later-length, later-is, readings-too-many, no-room-for-phases, start-outside, reading-leaves, refusal-from-nought, samples-too-many, no-sample, no-room-for-differences, range-decides}
 use Rattle.drift.specs.Drift.{withoutDrift, driftRefusal, driftAnswer, removalRefusal}
 use Rattle.drift.specs.declared.DriftAnswer.{DriftAnswer}
@@ -25,7 +25,7 @@ use Rattle.acceptance.proofs.RecordGrounds.{outside-fails, failing-outs
 -- ---- phase from a start: 2, 6, 3 of the start, 3 of a reading
 
 module _ (start : ℤ) (ys : List ℤ) (room : ℕ) where
-  phases-from-stand : {n p : ℕ} → OfPhasesFrom start ys room n p → Stands n p (startRefusal start ys room)
+  phases-from-stand : {n p : ℕ} → OfPhasesFrom start ys room n p → Stands n p (phaseRefusalFrom start ys room)
   unfolding firstLeaving
   phases-from-stand (Grounds.many h) = (λ e. omega arith, readings-too-many start ys room h)
   phases-from-stand (Grounds.no-room few h) = (λ e. omega arith, no-room-for-phases start ys room few h)
@@ -34,8 +34,8 @@ module _ (start : ℤ) (ys : List ℤ) (room : ℕ) where
       let there = outside-is (later start ys) (later-length start ys) (λ k. running start ys (k + 1)) (later-is start ys) first in
       (λ e. omega arith, reading-leaves start ys room few enough (bounded-sample start near) i (first .inside) (sym there))
 
-  phases-from-decided : Decided (OfPhasesFrom start ys room) (startRefusal start ys room)
-  unfolding startRefusal firstLeaving
+  phases-from-decided : Decided (OfPhasesFrom start ys room) (phaseRefusalFrom start ys room)
+  unfolding phaseRefusalFrom firstLeaving
   phases-from-decided =
       decide _ 2 0 (omega arith) (λ t. Grounds.many (ltb-true 32767 (length ys) t)) _
       (λ f. let few = ltb-false 32767 (length ys) f in
@@ -46,7 +46,7 @@ module _ (start : ℤ) (ys : List ℤ) (room : ℕ) where
       (λ t. Grounds.leaves few enough (sample-bounded start (not-false _ h))
       (first-outside (later start ys) (later-length start ys) (λ k. running start ys (k + 1)) (later-is start ys) t)))))
 
-  pub phases-from-agree : Agrees (OfPhasesFrom start ys room) (startRefusal start ys room)
+  pub phases-from-agree : Agrees (OfPhasesFrom start ys room) (phaseRefusalFrom start ys room)
   phases-from-agree = record { stands = phases-from-stand; decided = phases-from-decided }
 
 -- ---- phase from frequency: the same from 0, which is in range

@@ -11,7 +11,7 @@ use Rattle.laws.specs.Greatest.{bitByBit}
 use Rattle.wide.specs.Wide.{value}
 use Rattle.record.specs.Refusals.{inRange, rangeRefusal, sizeRefusal, recordRefusal}
 use Rattle.record.specs.Answers.{countAnswer, bufferLeft}
-use Rattle.frequency.specs.Frequency.{phasesFrom, phases, firstLeaving, phaseRefusal, startRefusal}
+use Rattle.frequency.specs.Frequency.{phasesFrom, phases, firstLeaving, phaseRefusal, phaseRefusalFrom}
 use Rattle.drift.specs.Drift.{driftH, driftP, driftR, driftRefusal, driftAnswer, floored, withoutDrift, removalRefusal}
 use Rattle.sums.specs.Published.{difference, allanCount, allanSum, allanDenominator, windowSum, modifiedCount, modifiedSum, timeDenominator}
 use Rattle.variances.specs.Fractions.{euclid, gcd}
@@ -53,7 +53,7 @@ use Rattle.phr.proofs.write_record.Kinds as write-record-kinds
 use Rattle.acceptance.specs.Figures.{Starred}
 
 pub starred-figures : Starred
-unfolding sum sumℤ tabulate firstFailing bitByBit inRange rangeRefusal sizeRefusal recordRefusal countAnswer bufferLeft phasesFrom phases firstLeaving phaseRefusal startRefusal driftH driftP driftR driftRefusal driftAnswer floored withoutDrift removalRefusal difference allanCount allanSum allanDenominator windowSum modifiedCount modifiedSum timeDenominator euclid gcd deviation sumAnswer allanSumAnswer modifiedSumAnswer figureRefusal fractionAnswer allanFractionAnswer timeFractionAnswer deviationAnswer allanDeviationAnswer alphaOf kappaOf noiseOf noiseRefusal noiseAnswer toldAlpha typeAnswer barWidth barHalf barsRefusal barOf barsAnswer drawnNumber round lowFirst twosComplement valuesBytes firstEight header fileOf headerFrom fileFrom mostValues valueInRange startFits valuesRefusal roomRefusal writeRefusal writeRecordRefusal
+unfolding sum sumℤ tabulate firstFailing bitByBit inRange rangeRefusal sizeRefusal recordRefusal countAnswer bufferLeft phasesFrom phases firstLeaving phaseRefusal phaseRefusalFrom driftH driftP driftR driftRefusal driftAnswer floored withoutDrift removalRefusal difference allanCount allanSum allanDenominator windowSum modifiedCount modifiedSum timeDenominator euclid gcd deviation sumAnswer allanSumAnswer modifiedSumAnswer figureRefusal fractionAnswer allanFractionAnswer timeFractionAnswer deviationAnswer allanDeviationAnswer alphaOf kappaOf noiseOf noiseRefusal noiseAnswer toldAlpha typeAnswer barWidth barHalf barsRefusal barOf barsAnswer drawnNumber round lowFirst twosComplement valuesBytes firstEight header fileOf headerFrom fileFrom mostValues valueInRange startFits valuesRefusal roomRefusal writeRefusal writeRecordRefusal
 starred-figures = record {
   squares-at-1 = (refl, refl);
   squares-deviation = refl;
@@ -108,7 +108,7 @@ pub phase-from-frequency-computes : Always 2 phase-from-frequency-kinds.ps phase
 phase-from-frequency-computes κs args z w is = is
 
 pub phase-from-start-computes : Always 2 phase-from-start-kinds.ps phase-from-start-kinds.r phase-from-start.Post
-    (λ κs args z w. let start = args .0 in let ys = now (args .1 .0) in let buffer = now (args .1 .1 .0) in let r = startRefusal start ys (length buffer) in
+    (λ κs args z w. let start = args .0 in let ys = now (args .1 .0) in let buffer = now (args .1 .1 .0) in let r = phaseRefusalFrom start ys (length buffer) in
     (z ≡ countAnswer r (length ys + 1)) × (w .1 .1 .0 ≡ bufferLeft r (phasesFrom start ys) buffer))
 phase-from-start-computes κs args z w is = is
 

@@ -33,7 +33,7 @@ use Rattle.record.specs.declared.Refusal.{Refusal}
 use Rattle.record.specs.declared.CountAnswer.{CountAnswer}
 use Rattle.record.proofs.RangeLaws.{bounded-sample}
 use Rattle.record.proofs.RefusalLaws.{first-refuses-nothing, rest-refuses-nothing, test-fails, none-sound, unrefused-sound}
-use Rattle.frequency.specs.Frequency.{phasesFrom, phases, phaseRefusal, startRefusal, differences, frequencyRefusal}
+use Rattle.frequency.specs.Frequency.{phasesFrom, phases, phaseRefusal, phaseRefusalFrom, differences, frequencyRefusal}
 use Rattle.frequency.proofs.FrequencyLaws.{phases-from-length, phase-from-is, refusal-from-nought, differences-length, difference-is}
 use Rattle.frequency.proofs.RoundTrip.{phases-of-differences, refused-at-first-offset, offsets-unrefused, record-again, record-unrefused, differences-of-phases, phases-go-back}
 use Rattle.drift.specs.Drift.{driftH, driftP, driftR, driftRefusal, driftAnswer, floored, withoutDrift, removalRefusal}
@@ -65,7 +65,8 @@ use Rattle.phr.specs.declared.ReadAnswer.{ReadAnswer}
 use Rattle.phr.specs.declared.RecordAnswer.{RecordAnswer}
 use Rattle.phr.proofs.WriteCases.{Writable, writable-none, unrefused-writable}
 use Rattle.phr.proofs.RoundTrip.{accepted-exactly, buffer-has-file, file-is-read, file-answer, values-come-back}
-use Rattle.phr.proofs.RecordRoundTrip.{accepted-either, buffer-has-file-from, file-from-is-read, file-from-answer, values-come-back-from, as-first-version, first-start, first-values, first-version}
+use Rattle.phr.proofs.RecordRoundTrip.{accepted-either, buffer-has-file-from, file-from-is-read, file-from-answer, values-come-back-from, as-first-version, first-values, first-version}
+use Rattle.phr.proofs.ReadCases.{first-start}
 use Rattle.plot.specs.Drawn.{GreatestDouble, drawnAnswer}
 use Rattle.plot.specs.Dots.{dotNumber, dotValue, dotAnswer}
 use Rattle.plot.specs.declared.dots.Dot.{Dot}
@@ -142,9 +143,9 @@ count-three n three = rw three
 
 -- ---- phase and frequency
 
-module _ (start : ℤ) (ys buffer : List ℤ) (nothing : startRefusal start ys (length buffer) ≡ none) where
-  pub phases-from-of : (countAnswer (startRefusal start ys (length buffer)) (length ys + 1) .count ≡ length ys + 1)
-      × ((i : ℕ) → i ≤ length ys → at (bufferLeft (startRefusal start ys (length buffer)) (phasesFrom start ys) buffer) i ≡ start +ℤ sumℤ i (at ys))
+module _ (start : ℤ) (ys buffer : List ℤ) (nothing : phaseRefusalFrom start ys (length buffer) ≡ none) where
+  pub phases-from-of : (countAnswer (phaseRefusalFrom start ys (length buffer)) (length ys + 1) .count ≡ length ys + 1)
+      × ((i : ℕ) → i ≤ length ys → at (bufferLeft (phaseRefusalFrom start ys (length buffer)) (phasesFrom start ys) buffer) i ≡ start +ℤ sumℤ i (at ys))
   phases-from-of = (
     count-of nothing (length ys + 1) (phasesFrom start ys) buffer,
     λ i inside.
@@ -153,8 +154,8 @@ module _ (start : ℤ) (ys buffer : List ℤ) (nothing : startRefusal start ys (
   )
 
   -- the output itself
-  pub phases-left : take (countAnswer (startRefusal start ys (length buffer)) (length ys + 1) .count)
-      (bufferLeft (startRefusal start ys (length buffer)) (phasesFrom start ys) buffer) ≡ phasesFrom start ys
+  pub phases-left : take (countAnswer (phaseRefusalFrom start ys (length buffer)) (length ys + 1) .count)
+      (bufferLeft (phaseRefusalFrom start ys (length buffer)) (phasesFrom start ys) buffer) ≡ phasesFrom start ys
   phases-left = output-taken nothing (length ys + 1) (phasesFrom start ys) buffer (phases-from-length start ys)
 
 module _ (ys buffer : List ℤ) (nothing : phaseRefusal ys (length buffer) ≡ none) where
@@ -212,14 +213,14 @@ module _ (xs : List ℤ) (some : 0 < length xs) (few : length xs ≤ 32768) wher
       }
 
   pub record-given-back : (other : List ℤ) → length xs ≤ length other → rangeRefusal xs ≡ none →
-      GivenBack xs (bufferLeft (startRefusal (at xs 0) (differences xs) (length other)) (phasesFrom (at xs 0) (differences xs)) other)
-      (countAnswer (startRefusal (at xs 0) (differences xs) (length other)) (length (differences xs) + 1))
+      GivenBack xs (bufferLeft (phaseRefusalFrom (at xs 0) (differences xs) (length other)) (phasesFrom (at xs 0) (differences xs)) other)
+      (countAnswer (phaseRefusalFrom (at xs 0) (differences xs) (length other)) (length (differences xs) + 1))
   record-given-back other room in-range =
       given-back (record-unrefused xs some (length other) few room in-range) (length (differences xs) + 1) (phasesFrom (at xs 0) (differences xs)) other
       (record-again xs some) (omega (arith, differences-length xs))
 
 module _ (start : ℤ) (ys : List ℤ) where
-  pub readings-given-back : (before : ℕ) → startRefusal start ys before ≡ none → (other : List ℤ) → length ys ≤ length other →
+  pub readings-given-back : (before : ℕ) → phaseRefusalFrom start ys before ≡ none → (other : List ℤ) → length ys ≤ length other →
       let xs = phasesFrom start ys in
       GivenBack ys (bufferLeft (frequencyRefusal xs (length other)) (differences xs) other) (countAnswer (frequencyRefusal xs (length other)) (length xs - 1))
   readings-given-back before nothing other room =

@@ -9,7 +9,7 @@ use lib.ListN.{length}
 use Rattle.laws.specs.Lists.{tabulate}
 use Rattle.record.specs.Answers.{countAnswer, bufferLeft}
 use Rattle.record.specs.declared.Refusal.{Refusal}
-use Rattle.frequency.specs.Frequency.{phasesFrom, phases, phaseRefusal, startRefusal}
+use Rattle.frequency.specs.Frequency.{phasesFrom, phases, phaseRefusal, phaseRefusalFrom}
 use Rattle.drift.specs.Drift.{driftAnswer, withoutDrift, removalRefusal}
 use Rattle.sums.specs.Answers.{allanSumAnswer, modifiedSumAnswer}
 use Rattle.sums.specs.declared.SumAnswer.{SumAnswer}
@@ -79,7 +79,7 @@ pub record Starred : Type 0 where
   -- the lent buffer held byTurns
   pub phased : let ys : List ℤ = pos 3 ∷ negsuc 0 ∷ pos 4 ∷ [] in Fills (phaseRefusal ys 5) 4 (phases ys) byTurns (pos 0 ∷ pos 3 ∷ pos 2 ∷ pos 6 ∷ pos 0 ∷ [])
   pub phased-from : let ys : List ℤ = pos 3 ∷ negsuc 0 ∷ pos 4 ∷ [] in
-      Fills (startRefusal (pos 5) ys 5) 4 (phasesFrom (pos 5) ys) byTurns (pos 5 ∷ pos 8 ∷ pos 7 ∷ pos 11 ∷ pos 0 ∷ [])
+      Fills (phaseRefusalFrom (pos 5) ys 5) 4 (phasesFrom (pos 5) ys) byTurns (pos 5 ∷ pos 8 ∷ pos 7 ∷ pos 11 ∷ pos 0 ∷ [])
   pub squares-drift : Drift squares (pos 8) 4 (pos 0 ∷ pos 1 ∷ pos 2 ∷ pos 3 ∷ pos 4 ∷ pos 5 ∷ [])
   pub last-fallen-drift : let xs : List ℤ = pos 0 ∷ pos 0 ∷ pos 0 ∷ negsuc 0 ∷ [] in Drift xs (pos 0) 1 xs
   pub falling-drift : Drift (pos 0 ∷ pos 0 ∷ pos 0 ∷ pos 0 ∷ negsuc 0 ∷ []) (negsuc 0) 4 (pos 0 ∷ pos 0 ∷ pos 1 ∷ pos 1 ∷ pos 1 ∷ [])

@@ -23,7 +23,7 @@ use Rattle.laws.proofs.Expressions.{Expression, $_, ±_, _∋_, _⊕_, _⊖_}
 use Rattle.laws.proofs.Machine.{Fit, machine, result, machine-is, result-is, operation-fits, argument, LeavesFit, argument-is, lt-taken, lt-left}
 use Rattle.record.specs.Refusals.{none, refused, refusedIf, _then_, inRange, rangeRefusal}
 use Rattle.record.specs.declared.Refusal.{Refusal}
-use Rattle.frequency.specs.Frequency.{phasesFrom, firstLeaving, phaseRefusal, startRefusal, differences, frequencyRefusal}
+use Rattle.frequency.specs.Frequency.{phasesFrom, firstLeaving, phaseRefusal, phaseRefusalFrom, differences, frequencyRefusal}
 use Rattle.record.proofs.RangeLaws.{sample-bounded}
 use Rattle.record.proofs.RefusalLaws.{first-refuses-nothing, rest-refuses-nothing, test-fails, range-bounded}
 
@@ -245,28 +245,28 @@ module _ (xs : List ℤ) where
 -- ---- 2, 6, 3 of the start, 3 of a reading: the refusal of phase from a start, with a buffer of so many entries
 
 module _ (start : ℤ) (ys : List ℤ) (room : ℕ) where
-  pub readings-too-many : 32767 < length ys → startRefusal start ys room ≡ refused 2 0
-  unfolding startRefusal
+  pub readings-too-many : 32767 < length ys → phaseRefusalFrom start ys room ≡ refused 2 0
+  unfolding phaseRefusalFrom
   readings-too-many h = simp (lt-ltb 32767 (length ys) h)
 
   module _ (few : length ys ≤ 32767) where
-    pub no-room-for-phases : room < length ys + 1 → startRefusal start ys room ≡ refused 6 0
-    unfolding startRefusal
+    pub no-room-for-phases : room < length ys + 1 → phaseRefusalFrom start ys room ≡ refused 6 0
+    unfolding phaseRefusalFrom
     no-room-for-phases h = simp (le-ltb 32767 (length ys) few, lt-ltb room (length ys + 1) h)
 
     module _ (enough : length ys + 1 ≤ room) where
-      pub start-outside : inRange start ≡ false → startRefusal start ys room ≡ refused 3 0
-      unfolding startRefusal
+      pub start-outside : inRange start ≡ false → phaseRefusalFrom start ys room ≡ refused 3 0
+      unfolding phaseRefusalFrom
       start-outside t = simp (le-ltb 32767 (length ys) few, le-ltb room (length ys + 1) enough, t)
 
       module _ (inside : inRange start ≡ true) where
-        pub reading-leaves : (i : ℕ) → i < length ys → i ≡ firstLeaving start ys → startRefusal start ys room ≡ refused 3 i
-        unfolding startRefusal
+        pub reading-leaves : (i : ℕ) → i < length ys → i ≡ firstLeaving start ys → phaseRefusalFrom start ys room ≡ refused 3 i
+        unfolding phaseRefusalFrom
         reading-leaves i h e =
             simp (le-ltb 32767 (length ys) few, le-ltb room (length ys + 1) enough, inside, sym e, lt-ltb i (length ys) h)
 
-        pub phases-unrefused : firstLeaving start ys ≡ length ys → startRefusal start ys room ≡ none
-        unfolding startRefusal
+        pub phases-unrefused : firstLeaving start ys ≡ length ys → phaseRefusalFrom start ys room ≡ none
+        unfolding phaseRefusalFrom
         phases-unrefused e =
             simp (le-ltb 32767 (length ys) few, le-ltb room (length ys + 1) enough, inside, e, le-ltb (length ys) (length ys) (omega arith))
 
@@ -276,8 +276,8 @@ pub record Staying (start : ℤ) (ys : List ℤ) : Type 0 where
   pub in-range : natAbs start ≤ 2 ^ 40
   pub stay : firstLeaving start ys ≡ length ys
 
-pub unrefused-stays : (start : ℤ) (ys : List ℤ) (room : ℕ) → startRefusal start ys room ≡ none → Staying start ys
-unfolding startRefusal
+pub unrefused-stays : (start : ℤ) (ys : List ℤ) (room : ℕ) → phaseRefusalFrom start ys room ≡ none → Staying start ys
+unfolding phaseRefusalFrom
 unrefused-stays start ys room nothing =
     let many = refusedIf (ltb 32767 (length ys)) 2 0 in
     let no-room = refusedIf (ltb room (length ys + 1)) 6 0 in
@@ -291,8 +291,8 @@ unrefused-stays start ys room nothing =
     }
 
 -- 0 is in range: from there phases are refused as phase from frequency is
-pub refusal-from-nought : (ys : List ℤ) (room : ℕ) → startRefusal (pos 0) ys room ≡ phaseRefusal ys room
-unfolding startRefusal phaseRefusal inRange
+pub refusal-from-nought : (ys : List ℤ) (room : ℕ) → phaseRefusalFrom (pos 0) ys room ≡ phaseRefusal ys room
+unfolding phaseRefusalFrom phaseRefusal inRange
 refusal-from-nought ys room = refl
 
 -- ---- 2, 1, 6, 3: the refusal of frequency from phase

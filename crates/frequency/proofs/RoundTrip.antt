@@ -11,7 +11,7 @@ use Rattle.laws.proofs.ListLaws.{tabulate-equal, tabulate-of, first-failing-is,
 use Rattle.laws.proofs.SumLaws.{sumℤ-equal, sumℤ-telescopes}
 use Rattle.laws.proofs.Expressions.{$_, _⊕_, _⊖_, equation}
 use Rattle.record.specs.Refusals.{none, refused, inRange, rangeRefusal}
-use Rattle.frequency.specs.Frequency.{phasesFrom, phases, firstLeaving, phaseRefusal, startRefusal, differences, frequencyRefusal}
+use Rattle.frequency.specs.Frequency.{phasesFrom, phases, firstLeaving, phaseRefusal, phaseRefusalFrom, differences, frequencyRefusal}
 use Rattle.record.proofs.RangeLaws.{bounded-sample}
 use Rattle.record.proofs.RefusalLaws.{all-in-range, range-bounded}
 use Rattle.frequency.proofs.FrequencyLaws.{running, later, running-step, phases-from-length, phase-from-is, later-length, later-is, differences-length, difference-is, phase-in-range, reading-leaves, phases-unrefused, unrefused-stays, refusal-from-nought, range-decides}
@@ -41,7 +41,7 @@ module _ (xs : List ℤ) (some : 0 < length xs) where
     module _ (room : ℕ) (few : length xs ≤ 32768) (enough : length xs ≤ room) (inside : inRange start ≡ true) where
       -- the differences are refused exactly at the first i whose z_(i+1) leaves the range
       refused-at-first : (i : ℕ) → i + 1 < length xs → ((k : ℕ) → k < i → inRange (zs (k + 1)) ≡ true) → inRange (zs (i + 1)) ≡ false →
-          startRefusal start (differences xs) room ≡ refused 3 i
+          phaseRefusalFrom start (differences xs) room ≡ refused 3 i
       unfolding firstLeaving
       refused-at-first i h before here =
           let count = count-is in
@@ -52,7 +52,7 @@ module _ (xs : List ℤ) (some : 0 < length xs) where
           stays : (k : ℕ) → k < i → inRange (at (later start (differences xs)) k) ≡ true
           stays k below = rw (later-reaches k (omega arith)) (before k below)
 
-      unrefused-in-reach : ((k : ℕ) → k + 1 < length xs → inRange (zs (k + 1)) ≡ true) → startRefusal start (differences xs) room ≡ none
+      unrefused-in-reach : ((k : ℕ) → k + 1 < length xs → inRange (zs (k + 1)) ≡ true) → phaseRefusalFrom start (differences xs) room ≡ none
       unfolding firstLeaving
       unrefused-in-reach all =
           let count = count-is in
@@ -96,7 +96,7 @@ module _ (xs : List ℤ) (some : 0 < length xs) where
   record-again = phases-reach (at xs 0) (at xs) sample-again ∙ tabulate-of xs (pos 0)
 
   -- a record in range is never refused on the way back
-  pub record-unrefused : (room : ℕ) → length xs ≤ 32768 → length xs ≤ room → rangeRefusal xs ≡ none → startRefusal (at xs 0) (differences xs) room ≡ none
+  pub record-unrefused : (room : ℕ) → length xs ≤ 32768 → length xs ≤ room → rangeRefusal xs ≡ none → phaseRefusalFrom (at xs 0) (differences xs) room ≡ none
   record-unrefused room few enough in-range =
       let sample : (k : ℕ) → inRange (at xs k) ≡ true = λ k. bounded-sample (at xs k) (range-bounded xs in-range k) in
       unrefused-in-reach (at xs 0) (at xs) sample-again room few enough (sample 0) (λ k h. sample (k + 1))
@@ -119,7 +119,7 @@ module _ (start : ℤ) (ys : List ℤ) where
           (equation (x ⊕ $ at ys i ⊖ x) ($ at ys i) (omega arith))
 
   -- phases that were not refused are not refused on the way back
-  pub phases-go-back : (before : ℕ) → startRefusal start ys before ≡ none → (room : ℕ) → length ys ≤ room → frequencyRefusal (phasesFrom start ys) room ≡ none
+  pub phases-go-back : (before : ℕ) → phaseRefusalFrom start ys before ≡ none → (room : ℕ) → length ys ≤ room → frequencyRefusal (phasesFrom start ys) room ≡ none
   phases-go-back before nothing room enough =
       let ps = phasesFrom start ys in
       let count = phases-from-length start ys in

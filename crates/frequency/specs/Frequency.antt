@@ -30,8 +30,8 @@ phaseRefusal ys room =
     then refusedIf (ltb (firstLeaving (pos 0) ys) (length ys)) 3 (firstLeaving (pos 0) ys)
 
 -- from a start: the same, but 3 at place 0 for a start out of the sample range before the readings are looked at
-unfoldable pub startRefusal : ℤ → List ℤ → ℕ → Refusal
-startRefusal start ys room =
+unfoldable pub phaseRefusalFrom : ℤ → List ℤ → ℕ → Refusal
+phaseRefusalFrom start ys room =
     refusedIf (ltb 32767 (length ys)) 2 0
     then refusedIf (ltb room (length ys + 1)) 6 0
     then refusedIf (not (inRange start)) 3 0

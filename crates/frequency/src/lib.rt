@@ -8,7 +8,7 @@ ghost use lib.ListN.{length};
 ghost use Rattle.laws.specs.Lists.{written};
 ghost use Rattle.record.specs.Refusals.{none, inRange, rangeRefusal};
 ghost use Rattle.record.specs.Answers.{countAnswer, bufferLeft};
-ghost use Rattle.frequency.specs.Frequency.{phasesFrom, phases, firstLeaving, phaseRefusal, startRefusal, differences, frequencyRefusal};
+ghost use Rattle.frequency.specs.Frequency.{phasesFrom, phases, firstLeaving, phaseRefusal, phaseRefusalFrom, differences, frequencyRefusal};
 
 // Phases from readings: M readings give M + 1 phases, the first of them 0. Refuses 2, 6, then 3 at the first reading whose running phase leaves
 // the sample range.
@@ -22,8 +22,8 @@ pub fn phase_from_frequency(readings: &[i64], buffer: &mut [i64]) -> CountAnswer
 // Phases from readings, from a start on: M readings give M + 1 phases, the first of them the start. Refuses 2, 6, 3 at place 0 for a start outside the
 // sample range, then 3 at the first reading whose running phase leaves it.
 pub fn phase_from_start(start: i64, readings: &[i64], buffer: &mut [i64]) -> CountAnswer
-    ensures { λ r. ⌜ r ≡ countAnswer (startRefusal start (now (readings .entry)) (length (now (buffer .entry)))) (length (now (readings .entry)) + 1) ⌝ }
-    ensures { λ r. ⌜ now (buffer .exit) ≡ bufferLeft (startRefusal start (now (readings .entry)) (length (now (buffer .entry)))) (phasesFrom start (now (readings .entry))) (now (buffer .entry)) ⌝ }
+    ensures { λ r. ⌜ r ≡ countAnswer (phaseRefusalFrom start (now (readings .entry)) (length (now (buffer .entry)))) (length (now (readings .entry)) + 1) ⌝ }
+    ensures { λ r. ⌜ now (buffer .exit) ≡ bufferLeft (phaseRefusalFrom start (now (readings .entry)) (length (now (buffer .entry)))) (phasesFrom start (now (readings .entry))) (now (buffer .entry)) ⌝ }
 {
     let count = readings.len();
     if record::MOST_READINGS < count as u64 {

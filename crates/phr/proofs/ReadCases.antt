@@ -7,10 +7,11 @@ use native.Mathlib.Nat.{min-eq-left, min-eq-right}
 use native.Mathlib.Omega.{arith}
 use borrow.Author.Tests.{lt-ltb, le-ltb, ltb-false, eq-eqb, ne-eqb, eqb-true, not-false}
 use lib.Dec.{ltb, eqb}
+use lib.IntN.{pos}
 use lib.ListN.{length}
 use Rattle.record.specs.Refusals.{none, refused, refusedIf, _then_, inRange}
-use Rattle.record.proofs.RefusalLaws.{first-refuses-nothing, rest-refuses-nothing, test-fails}
-use Rattle.phr.specs.Bytes.{valuesFrom}
+use Rattle.record.proofs.RefusalLaws.{refusal-stands, first-refuses-nothing, rest-refuses-nothing, test-fails}
+use Rattle.phr.specs.Bytes.{valueAt}
 use Rattle.phr.specs.File.{mostValues, startFits, valuesRefusal}
 use Rattle.phr.specs.Reading.{soundUpTo, kindOf, countOf, countRefusal, headerTests, valuesOf, readRefusal, eitherTests, versionOf, headLength, startOf, recordValues, headerRefusal, readRecordRefusal}
 use Rattle.phr.proofs.ValueCases.{AllInRange, in-range-none, unrefused-in-range}
@@ -37,6 +38,25 @@ most-values-bounded kind = by-kind (eqb kind 0)
     by-kind : (phase : Bool) → cond phase 32768 32767 ≤ 32768
     by-kind true = omega arith
     by-kind false = omega arith
+
+-- the header and the start by the version
+module _ (bytes : List ℕ) (first : versionOf bytes ≡ 2 → ⊥) where
+  pub first-head : headLength bytes ≡ 8
+  unfolding headLength
+  first-head = rw (ne-eqb (versionOf bytes) 2 first)
+
+  pub first-start : startOf bytes ≡ pos 0
+  unfolding startOf
+  first-start = rw (ne-eqb (versionOf bytes) 2 first)
+
+module _ (bytes : List ℕ) (second : versionOf bytes ≡ 2) where
+  pub second-head : headLength bytes ≡ 16
+  unfolding headLength
+  second-head = rw (eq-eqb (versionOf bytes) 2 second)
+
+  pub second-start : startOf bytes ≡ valueAt bytes 8
+  unfolding startOf
+  second-start = rw (eq-eqb (versionOf bytes) 2 second)
 
 pub head-length-bounded : (bytes : List ℕ) → (8 ≤ headLength bytes) × (headLength bytes ≤ 16)
 unfolding headLength
@@ -167,6 +187,9 @@ module _ (bytes : List ℕ) where
       unfolding headerRefusal
       start-fit e = simp (le-ltb (soundUpTo eitherTests bytes) 8 sound, le-ltb (length bytes) (headLength bytes) present, e)
 
+  pub sound-header-none : SoundHeader bytes → headerRefusal bytes ≡ none
+  sound-header-none h = start-fit (h .sound) (h .present) (h .start-fits)
+
   pub unrefused-header : headerRefusal bytes .number ≡ 0 → SoundHeader bytes
   unfolding headerRefusal
   unrefused-header e =
@@ -181,11 +204,15 @@ module _ (bytes : List ℕ) where
       }
 
   module _ (room : ℕ) where
+    -- a count that is refused is the answer, whatever the start and the values are
+    pub count-refuses : SoundHeader bytes → (countRefusal (headLength bytes) bytes room .number ≡ 0 → ⊥) → readRecordRefusal bytes room ≡ countRefusal (headLength bytes) bytes room
+    unfolding readRecordRefusal
+    count-refuses h numbered = rw (sound-header-none h) (refusal-stands _ _ numbered)
+
     pub readable-record-none : ReadableRecord bytes room → readRecordRefusal bytes room ≡ none
     unfolding readRecordRefusal
     readable-record-none r =
-        let header = r .header in
-        rw (start-fit (header .sound) (header .present) (header .start-fits), counted-none (headLength bytes) bytes room (r .counted), r .start-in-range)
+        rw (sound-header-none (r .header), counted-none (headLength bytes) bytes room (r .counted), r .start-in-range)
         (in-range-none (kindOf bytes) (recordValues bytes) (r .in-range))
 
     pub unrefused-record : readRecordRefusal bytes room .number ≡ 0 → ReadableRecord bytes room

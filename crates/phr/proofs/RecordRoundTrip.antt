@@ -25,7 +25,7 @@ use Rattle.phr.specs.Reading.{testsOf, soundUpTo, kindOf, countOf, heade
 use Rattle.phr.specs.Writing.{writeRecordRefusal}
 use Rattle.phr.proofs.ByteLaws.{bytes-joined}
 use Rattle.phr.proofs.RangeCases.{in-range-fits}
-use Rattle.phr.proofs.ReadCases.{ReadableRecord, readable-record-none, unrefused-record, record-values-length, sound-within, most-values-bounded, header-wrong, first-eight-wrong, start-fit}
+use Rattle.phr.proofs.ReadCases.{ReadableRecord, first-head, first-start, second-head, second-start, readable-record-none, unrefused-record, record-values-length, sound-within, most-values-bounded, header-wrong, first-eight-wrong, start-fit}
 use Rattle.phr.proofs.RoundTrip.{first-eight-bytes, kind-there, count-there, version-there, first-eight-sound, eight-present, passed, kind-passed, eight-there, values-there, accepted-exactly}
 use Rattle.phr.proofs.StartCases.{fit-passes, passes-fit}
 use Rattle.phr.proofs.WriteCases.{unrefused-from}
@@ -51,17 +51,9 @@ second-version-refused bytes room long e₀ e₁ e₂ e₃ =
 -- ---- version 1, for the reader of either
 
 module _ (bytes : List ℕ) (first : versionOf bytes ≡ 2 → ⊥) where
-  pub first-head : headLength bytes ≡ 8
-  unfolding headLength
-  first-head = rw (ne-eqb (versionOf bytes) 2 first)
-
-  pub first-start : startOf bytes ≡ pos 0
-  unfolding startOf
-  first-start = rw (ne-eqb (versionOf bytes) 2 first)
-
   pub first-values : recordValues bytes ≡ valuesOf bytes
   unfolding recordValues valuesOf
-  first-values = rw first-head
+  first-values = rw (first-head bytes first)
 
   same-sound : soundUpTo eitherTests bytes ≡ soundUpTo headerTests bytes
   unfolding versionOf soundUpTo testsOf eitherTests headerTests
@@ -85,12 +77,12 @@ module _ (bytes : List ℕ) (first : versionOf bytes ≡ 2 → ⊥) where
       by-sound true t = first-eight-wrong bytes (omega (arith, same-sound, ltb-true (soundUpTo headerTests bytes) 8 t)) ∙ ap (refused 9) same-sound
       by-sound false t =
           let sound : 8 ≤ soundUpTo eitherTests bytes = omega (arith, same-sound, ltb-false (soundUpTo headerTests bytes) 8 t) in
-          start-fit bytes sound (omega (arith, first-head, sound-within eitherTests bytes)) (fit-passes (kindOf bytes) (startOf bytes) (λ phase. first-start))
+          start-fit bytes sound (omega (arith, first-head bytes first, sound-within eitherTests bytes)) (fit-passes (kindOf bytes) (startOf bytes) (λ phase. first-start bytes first))
 
   -- it is refused, or not, as the reader of version 1 alone refuses it
   pub as-first-version : (room : ℕ) → readRecordRefusal bytes room ≡ readRefusal bytes room
   unfolding readRecordRefusal readRefusal inRange
-  as-first-version room = rw (header-as-first, first-head, first-start, first-values)
+  as-first-version room = rw (header-as-first, first-head bytes first, first-start bytes first, first-values)
 
   pub first-version : (room : ℕ) → readRecordRefusal bytes room ≡ none → versionOf bytes ≡ 1
   unfolding versionOf eitherTests testsOf
@@ -138,21 +130,17 @@ module _ (kind : ℕ) (start : ℤ) (values : List ℤ) (proper : Proper kind va
   count-comes-back-from =
       ap countOf begins ∙ count-there 2 kind (length values) (valueBytes start ++ valuesBytes values) (omega (arith, proper .few, most-values-bounded kind))
 
-  head-is : headLength (fileFrom kind start values) ≡ 16
-  unfolding headLength
-  head-is = rw (eq-eqb _ 2 version-comes-back-from)
-
   pub start-comes-back : startOf (fileFrom kind start values) ≡ start
-  unfolding startOf firstEight lowFirst
+  unfolding firstEight lowFirst
   start-comes-back =
-      rw (eq-eqb _ 2 version-comes-back-from)
-      (ap (λ (bytes : List ℕ). valueAt bytes 8) begins
-      ∙ value-back (firstEight 2 kind (length values)) (valuesBytes values) 8 start refl (small-fits start (omega (arith, proper-start .in-range))))
+      second-start (fileFrom kind start values) version-comes-back-from
+      ∙ ap (λ (bytes : List ℕ). valueAt bytes 8) begins
+      ∙ value-back (firstEight 2 kind (length values)) (valuesBytes values) 8 start refl (small-fits start (omega (arith, proper-start .in-range)))
 
   pub values-come-back-from : recordValues (fileFrom kind start values) ≡ values
   unfolding recordValues fileFrom headerFrom firstEight lowFirst
   values-come-back-from =
-      rw (head-is, count-comes-back-from)
+      rw (second-head (fileFrom kind start values) version-comes-back-from, count-comes-back-from)
       (ap (λ (bytes : List ℕ). valuesFrom 16 (length values) (headerFrom kind start (length values) ++ bytes)) (sym (append-nil (valuesBytes values)))
       ∙ values-back values (headerFrom kind start (length values)) [] 16 refl (λ i h. in-range-fits kind (at values i) (proper .in-range i h)))
 
@@ -163,7 +151,7 @@ module _ (kind : ℕ) (start : ℤ) (values : List ℤ) (proper : Proper kind va
       ∙ first-eight-sound 2 kind (length values) (valueBytes start ++ valuesBytes values) (λ b. eqb b 1 || eqb b 2) refl (omega arith) (proper .known)
 
   file-from-readable : (room : ℕ) → length values ≤ room → ReadableRecord (fileFrom kind start values) room
-  file-from-readable room enough = record {
+  file-from-readable room enough = let head-is = second-head (fileFrom kind start values) version-comes-back-from in record {
     header = record {
       sound = omega (arith, from-sound);
       present = omega (arith, head-is, file-from-length kind start values);
@@ -207,27 +195,19 @@ module _ (bytes : List ℕ) (all : AreBytes bytes) (room : ℕ) (second : versio
   readable : ReadableRecord bytes room
   readable = unrefused-record bytes room (ap (λ (r : Refusal). r .number) accepted)
 
-  head-there : headLength bytes ≡ 16
-  unfolding headLength
-  head-there = rw (eq-eqb _ 2 second)
-
   whole : length bytes ≡ 16 + 8 * countOf bytes
-  whole = readable .counted .whole ∙ ap (λ (n : ℕ). n + 8 * countOf bytes) head-there
-
-  start-there : startOf bytes ≡ valueAt bytes 8
-  unfolding startOf
-  start-there = rw (eq-eqb _ 2 second)
+  whole = readable .counted .whole ∙ ap (λ (n : ℕ). n + 8 * countOf bytes) (second-head bytes second)
 
   record-values-there : recordValues bytes ≡ valuesFrom 16 (countOf bytes) bytes
   unfolding recordValues
-  record-values-there = rw head-there
+  record-values-there = rw (second-head bytes second)
 
   header-there : take 16 bytes ≡ headerFrom (kindOf bytes) (startOf bytes) (countOf bytes)
   unfolding headerFrom eitherTests
   header-there =
       take-add 8 8 bytes
       ∙ ap₂ _++_ (eight-there (λ b. eqb b 1 || eqb b 2) bytes (readable .header .sound) all (omega arith) second)
-      (sym (value-bytes-back bytes 8 all (omega (arith, whole))) ∙ ap valueBytes (sym start-there))
+      (sym (value-bytes-back bytes 8 all (omega (arith, whole))) ∙ ap valueBytes (sym (second-start bytes second)))
 
   accepted-is-file-from : bytes ≡ fileFrom (kindOf bytes) (startOf bytes) (recordValues bytes)
   unfolding fileFrom

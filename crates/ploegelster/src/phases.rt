@@ -5,7 +5,7 @@ ghost use mathlib.Core.Path.{_≡_};
 ghost use Prim.Native.Nat.{_+_, _-_};
 ghost use lib.ListN.{length};
 ghost use Rattle.record.specs.Answers.{countAnswer, bufferLeft};
-ghost use Rattle.frequency.specs.Frequency.{phasesFrom, phases, phaseRefusal, startRefusal, differences, frequencyRefusal};
+ghost use Rattle.frequency.specs.Frequency.{phasesFrom, phases, phaseRefusal, phaseRefusalFrom, differences, frequencyRefusal};
 ghost use Rattle.drift.specs.Drift.{driftAnswer, withoutDrift, removalRefusal};
 
 // Phases from readings.
@@ -24,8 +24,8 @@ pub extern "C" fn plg_phase_from_start(
     readings: &[i64],
     buffer: &mut [i64],
 ) -> CountAnswer
-    ensures { λ r. ⌜ r ≡ countAnswer (startRefusal start (now (readings .entry)) (length (now (buffer .entry)))) (length (now (readings .entry)) + 1) ⌝ }
-    ensures { λ r. ⌜ now (buffer .exit) ≡ bufferLeft (startRefusal start (now (readings .entry)) (length (now (buffer .entry)))) (phasesFrom start (now (readings .entry))) (now (buffer .entry)) ⌝ }
+    ensures { λ r. ⌜ r ≡ countAnswer (phaseRefusalFrom start (now (readings .entry)) (length (now (buffer .entry)))) (length (now (readings .entry)) + 1) ⌝ }
+    ensures { λ r. ⌜ now (buffer .exit) ≡ bufferLeft (phaseRefusalFrom start (now (readings .entry)) (length (now (buffer .entry)))) (phasesFrom start (now (readings .entry))) (now (buffer .entry)) ⌝ }
 {
     frequency::phase_from_start(start, readings, buffer)
 }

@@ -11,7 +11,7 @@ use Rattle.record.specs.declared.Refusal.{Refusal}
 use Rattle.record.proofs.RefusalLaws.{refusal-stands, none-gives-way}
 use Rattle.phr.specs.File.{valuesRefusal}
 use Rattle.phr.specs.Reading.{kindOf, eitherTests, countRefusal, headLength, startOf, recordValues, headerRefusal, readRecordRefusal}
-use Rattle.phr.proofs.ReadCases.{SoundHeader, Counted, sound-within, head-length-bounded, unrefused-header, unrefused-counted}
+use Rattle.phr.proofs.ReadCases.{SoundHeader, Counted, sound-within, head-length-bounded, unrefused-header, unrefused-counted, count-refuses}
 use Rattle.phr.proofs.SignLaws.{loaded-value}
 use Rattle.phr.proofs.read_record_refusal.Statement.{statement}
 use Rattle.phr.proofs.read_record_refusal.Tie as tie
@@ -70,7 +70,7 @@ count-refusal-requires c κs = (eight-there (c .before), omega (arith, c .head-l
 returns-2 : tie.Need-returns-2
 returns-2 c =
     let r = count-there (c .before .before) in
-    r ∙ sym (after-header (c .before .before .before .before) ∙ refusal-stands _ _ (λ e. c .if2 .taken (ap (λ (z : Refusal). z .number) r ∙ e)))
+    r ∙ sym (count-refuses _ _ (header-there (c .before .before .before .before)) (λ e. c .if2 .taken (ap (λ (z : Refusal). z .number) r ∙ e)))
 
 start-of-requires : tie.Need-start-of-requires
 start-of-requires c κs = (eight-there (c .before .before .before .before), header-there (c .before .before .before .before) .present)

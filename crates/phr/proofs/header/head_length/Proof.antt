@@ -1,7 +1,8 @@
 -- `phr::header::head_length` meets its contract.
 use borrow.Author.Needs.{needs}
-use borrow.Author.Tests.{eq-eqb, ne-eqb}
-use Rattle.phr.specs.Reading.{versionOf, headLength}
+use mathlib.Core.Path.{sym}
+use Rattle.phr.specs.Reading.{versionOf}
+use Rattle.phr.proofs.ReadCases.{first-head, second-head}
 use Rattle.phr.proofs.header.head_length.Statement.{statement}
 use Rattle.phr.proofs.header.head_length.Tie as tie
 
@@ -9,12 +10,12 @@ shared-slice-read-if1 : tie.Need-shared-slice-read-if1
 shared-slice-read-if1 c = search needs
 
 returns : tie.Need-returns
-unfolding headLength versionOf
-returns c = rw (eq-eqb _ 2 (c .if1 .taken))
+unfolding versionOf
+returns c = sym (second-head _ (c .if1 .taken))
 
 returns-2 : tie.Need-returns-2
-unfolding headLength versionOf
-returns-2 c = rw (ne-eqb _ 2 (c .if1 .left))
+unfolding versionOf
+returns-2 c = sym (first-head _ (c .if1 .left))
 
 pub head-length-spec : {M : Type 1} → statement M
 head-length-spec = tie.close (tie.spec shared-slice-read-if1 returns returns-2)

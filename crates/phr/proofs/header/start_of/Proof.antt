@@ -1,9 +1,9 @@
 -- `phr::header::start_of` meets its contract.
 use borrow.Author.Needs.{needs}
-use mathlib.Core.Path.{_∙_}
+use mathlib.Core.Path.{sym, _∙_}
 use native.Mathlib.Omega.{arith}
-use borrow.Author.Tests.{eq-eqb, ne-eqb}
-use Rattle.phr.specs.Reading.{versionOf, headLength, startOf}
+use Rattle.phr.specs.Reading.{versionOf}
+use Rattle.phr.proofs.ReadCases.{first-start, second-head, second-start}
 use Rattle.phr.proofs.SignLaws.{loaded-value}
 use Rattle.phr.proofs.header.start_of.Statement.{statement}
 use Rattle.phr.proofs.header.start_of.Tie as tie
@@ -12,16 +12,18 @@ shared-slice-read-if1 : tie.Need-shared-slice-read-if1
 shared-slice-read-if1 c = search needs
 
 value-at-requires : tie.Need-value-at-requires
-unfolding headLength versionOf
-value-at-requires c κs = let s = c .before .before .before in rw (eq-eqb _ 2 (c .if1 .taken)) at (s .pre .1)
+unfolding versionOf
+value-at-requires c κs =
+    let s = c .before .before .before in
+    omega (arith, second-head (s .args .bytes .now) (c .if1 .taken), s .pre .1)
 
 returns : tie.Need-returns
-unfolding startOf versionOf
-returns c = loaded-value _ (c .value-at .ok) ∙ c .value-at .ensures ∙ rw (eq-eqb _ 2 (c .before .if1 .taken))
+unfolding versionOf
+returns c = loaded-value _ (c .value-at .ok) ∙ c .value-at .ensures ∙ sym (second-start _ (c .before .if1 .taken))
 
 returns-2 : tie.Need-returns-2
-unfolding startOf versionOf
-returns-2 c = rw (ne-eqb _ 2 (c .if1 .left))
+unfolding versionOf
+returns-2 c = sym (first-start _ (c .if1 .left))
 
 pub start-of-spec : {M : Type 1} → statement M
 start-of-spec = tie.close (tie.spec shared-slice-read-if1 value-at-requires returns returns-2)
