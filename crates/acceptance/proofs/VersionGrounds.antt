@@ -1,47 +1,31 @@
 -- The refusals of reading record files of either version, and of writing version 2, agree with their tables of grounds.
-use mathlib.Core.Path.{_≡_, refl, sym, ap, _∙_}
+use mathlib.Core.Path.{_≡_, refl, ap, _∙_}
 use mathlib.Core.Bool.{Bool, true, false, not, _||_}
 use mathlib.Core.List.{List}
-use mathlib.Core.Logic.{_⊎_, inl, inr}
-use Prim.Native.Nat.{ℕ, _+_, _*_, _^_, _≤_, _<_}
+use mathlib.Core.Logic.{inl, inr}
+use Prim.Native.Nat.{ℕ, _+_, _*_, _≤_, _<_}
 use native.Mathlib.Omega.{arith}
-use borrow.Author.Tests.{ltb-true, ltb-false, leb-true, leb-false, lt-leb, le-leb, not-false, not-true, eqb-true, eqb-false, eq-eqb, ne-eqb}
+use borrow.Author.Tests.{ltb-true, ltb-false, leb-true, leb-false, not-false, not-true, eqb-true, eq-eqb}
 use lib.Dec.{ltb, eqb}
-use lib.IntN.{ℤ, pos, natAbs}
-use lib.ListN.{length, getD}
+use lib.IntN.{ℤ, pos}
+use lib.ListN.{length}
 use Rattle.laws.specs.Lists.{at}
 use Rattle.record.specs.Refusals.{none, refused, refusedIf, _then_, inRange}
 use Rattle.record.specs.declared.Refusal.{Refusal}
+use Rattle.record.proofs.RangeLaws.{sample-bounded, bounded-sample}
 use Rattle.phr.specs.Bytes.{valueAt}
 use Rattle.phr.specs.File.{mostValues, startFits, valuesRefusal}
-use Rattle.phr.specs.Reading.{testsOf, soundUpTo, kindOf, countOf, countRefusal, eitherTests, headLength, startOf, recordValues, headerRefusal, readRecordRefusal, readRecordAnswer}
+use Rattle.phr.specs.Reading.{soundUpTo, kindOf, countOf, countRefusal, eitherTests, headLength, startOf, recordValues, headerRefusal, readRecordRefusal, readRecordAnswer}
 use Rattle.phr.specs.Writing.{roomRefusal, writeRecordRefusal}
 use Rattle.phr.specs.declared.RecordAnswer.{RecordAnswer}
-use Rattle.phr.proofs.ReadCases.{sound-within, head-length-bounded, record-values-length, too-many-values, file-too-short, file-too-long, no-room-for-values, room-for-values, unrefused-counted, first-eight-wrong, header-short, start-unfit, start-fit, unrefused-header}
+use Rattle.phr.proofs.ReadCases.{head-length-bounded, record-values-length, too-many-values, file-too-short, file-too-long, no-room-for-values, room-for-values, unrefused-counted, first-eight-wrong, header-short, start-unfit, start-fit, unrefused-header}
 use Rattle.phr.proofs.StartCases.{fit-passes, passes-fit, unfit-fails, fails-unfit}
 use Rattle.phr.proofs.WriteCases.{too-many-to-write, no-room-for-file, room-for-file, unrefused-room, no-such-kind-from, start-not-nought, start-allowed}
 use Rattle.acceptance.specs.Grounds
-use Rattle.acceptance.specs.Grounds.{NoRow, Grounded, First, None, TooMany, FarValue, EitherVersion, WrongEither, OfRecordHeader, OfRecordFile, OfWritingFrom}
+use Rattle.acceptance.specs.Grounds.{NoRow, Grounded, None, TooMany, EitherVersion, WrongEither, OfRecordHeader, OfRecordFile, OfWritingFrom}
 use Rattle.acceptance.proofs.Grounding.{Decided, Stands, Agrees, decide, decide-last, decide-after, stands-first, stands-later, grounded-answer}
+use Rattle.acceptance.proofs.RecordGrounds.{outside-fails, failing-outside}
 use Rattle.acceptance.proofs.FileGrounds.{too-many-above, few-enough, values-stand, values-decided, none-wrong, kind-known, eight-sound, first-wrong, too-few-bytes, unsound-row, few-values, count-decided, record-entry, room-decided}
-
--- ---- a start in range
-
-far-start-fails : (z : ℤ) → 2 ^ 40 < natAbs z → inRange z ≡ false
-unfolding inRange
-far-start-fails z h = lt-leb (natAbs z) (2 ^ 40) h
-
-near-start-passes : (z : ℤ) → natAbs z ≤ 2 ^ 40 → inRange z ≡ true
-unfolding inRange
-near-start-passes z h = le-leb (natAbs z) (2 ^ 40) h
-
-fails-far-start : (z : ℤ) → inRange z ≡ false → 2 ^ 40 < natAbs z
-unfolding inRange
-fails-far-start z e = leb-false (natAbs z) (2 ^ 40) e
-
-passes-near-start : (z : ℤ) → inRange z ≡ true → natAbs z ≤ 2 ^ 40
-unfolding inRange
-passes-near-start z e = leb-true (natAbs z) (2 ^ 40) e
 
 -- ---- the versions that are known
 
@@ -176,12 +160,12 @@ module _ (bytes : List ℕ) (room : ℕ) where
       after-header (rowless-header rowless) (stands-first _ _ (λ e. omega arith, no-room-for-values head bytes room (rowless-few rowless) whole h))
   reading-stands (Grounds.far-start rowless whole enough far) =
       after-header (rowless-header rowless)
-      (stands-later _ _ (room-for-values head bytes room (rowless-few rowless) whole enough) (λ e. omega arith, rw (far-start-fails start far)))
+      (stands-later _ _ (room-for-values head bytes room (rowless-few rowless) whole enough) (λ e. omega arith, rw (outside-fails start far)))
   reading-stands (Grounds.range rowless whole enough near first) =
       let known = known-kind (rowless-sound rowless) in
       after-header (rowless-header rowless)
       (stands-later _ _ (room-for-values head bytes room (rowless-few rowless) whole enough)
-      (rw (near-start-passes start near) (values-stand kind (recordValues bytes) (countOf bytes) value known (record-values-length bytes) (entry-is known) first)))
+      (rw (bounded-sample start near) (values-stand kind (recordValues bytes) (countOf bytes) value known (record-values-length bytes) (entry-is known) first)))
 
   header-decided : Decided (OfRecordFile bytes room) (headerRefusal bytes)
   unfolding headerRefusal
@@ -207,9 +191,9 @@ module _ (bytes : List ℕ) (room : ℕ) where
       (λ clear′. let counted = unrefused-counted head bytes room (ap (λ (r : Refusal). r .number) clear′) in
       let few : TooMany kind (countOf bytes) → ⊥ = λ many. omega (arith, too-many-above kind (countOf bytes) many, counted .few) in
       let rowless = sound-rowless (header .sound) (header .present) fit few in
-      decide _ 3 0 (omega arith) (λ t. Grounds.far-start rowless (counted .whole) (counted .enough) (fails-far-start start (not-true _ t))) _
+      decide _ 3 0 (omega arith) (λ t. Grounds.far-start rowless (counted .whole) (counted .enough) (failing-outside start (not-true _ t))) _
       (λ f. values-decided kind (recordValues bytes) (countOf bytes) value known (record-values-length bytes) (entry-is known)
-      (λ i first. Grounds.range rowless (counted .whole) (counted .enough) (passes-near-start start (not-false _ f)) first))))
+      (λ i first. Grounds.range rowless (counted .whole) (counted .enough) (sample-bounded start (not-false _ f)) first))))
 
   pub record-reading-agrees : Agrees (OfRecordFile bytes room) (readRecordRefusal bytes room)
   record-reading-agrees = record { stands = reading-stands; decided = reading-decided }
@@ -241,10 +225,10 @@ module _ (kind : ℕ) (start : ℤ) (values : List ℤ) (room : ℕ) where
       after-start (above .0) fit (stands-first sized _ (λ e. omega arith, too-many-to-write 16 kind (length values) room (above .1)))
   writing-stands (Grounds.no-room known fit few h) =
       after-start known fit (stands-first sized _ (λ e. omega arith, no-room-for-file 16 kind (length values) room (few-enough kind _ known few) h))
-  writing-stands (Grounds.far-start known fit few enough far) = after-room known fit few enough (λ e. omega arith, rw (far-start-fails start far))
+  writing-stands (Grounds.far-start known fit few enough far) = after-room known fit few enough (λ e. omega arith, rw (outside-fails start far))
   writing-stands (Grounds.range known fit few enough near first) =
       after-room known fit few enough
-      (rw (near-start-passes start near) (values-stand kind values (length values) (at values) known refl (λ k h. refl) first))
+      (rw (bounded-sample start near) (values-stand kind values (length values) (at values) known refl (λ k h. refl) first))
 
   writing-decided : Decided (OfWritingFrom kind start values room) (writeRecordRefusal kind start values room)
   unfolding writeRecordRefusal
@@ -256,9 +240,9 @@ module _ (kind : ℕ) (start : ℤ) (values : List ℤ) (room : ℕ) where
       decide-after _ _ (room-decided 16 kind (length values) room known (Grounds.many fit) (Grounds.no-room known fit))
       (λ clear. let fits = unrefused-room 16 kind (length values) room (ap (λ (r : Refusal). r .number) clear) in
       let few : TooMany kind (length values) → ⊥ = λ many. omega (arith, too-many-above kind (length values) many, fits .0) in
-      decide _ 3 0 (omega arith) (λ t. Grounds.far-start known fit few (fits .1) (fails-far-start start (not-true _ t))) _
+      decide _ 3 0 (omega arith) (λ t. Grounds.far-start known fit few (fits .1) (failing-outside start (not-true _ t))) _
       (λ h. values-decided kind values (length values) (at values) known refl (λ k i. refl)
-      (λ i first. Grounds.range known fit few (fits .1) (passes-near-start start (not-false _ h)) first)))))
+      (λ i first. Grounds.range known fit few (fits .1) (sample-bounded start (not-false _ h)) first)))))
 
   pub record-writing-agrees : Agrees (OfWritingFrom kind start values room) (writeRecordRefusal kind start values room)
   record-writing-agrees = record { stands = writing-stands; decided = writing-decided }

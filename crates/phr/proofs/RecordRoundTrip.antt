@@ -1,18 +1,16 @@
 -- Either version: reading gives back what writing wrote, accepts the files of version 1 and of version 2 and nothing else, and reads version 1 as the
 -- reader of version 1 alone does, which refuses version 2 at byte 3.
 use mathlib.Core.Path.{_≡_, refl, sym, ap, ap₂, _∙_}
-use mathlib.Core.Bool.{Bool, true, false, true≢false, cond, _||_}
+use mathlib.Core.Bool.{Bool, true, false, true≢false, _||_}
 use mathlib.Core.List.{List, [], _∷_, _++_, append-assoc, append-nil}
 use mathlib.Core.Logic.{_⊎_, inl, inr}
-use Prim.Native.Nat.{ℕ, _+_, _*_, _^_, _≤_, _<_}
+use Prim.Native.Nat.{ℕ, _+_, _*_, _≤_, _<_}
 use native.Mathlib.Omega.{arith}
-use borrow.Author.Tests.{ltb-true, ltb-false, le-leb, leb-true, eq-eqb, ne-eqb, eqb-true, eqb-false}
+use borrow.Author.Tests.{ltb-true, ltb-false, ne-eqb, eqb-true, eqb-false}
 use lib.Dec.{ltb, eqb}
-use lib.IntN.{ℤ, pos, negsuc, natAbs}
-use lib.ListN.{length, getD, take, drop, take-append-drop}
+use lib.IntN.{ℤ}
+use lib.ListN.{length, getD, take, take-append-drop}
 use lib.Seq.{take-add, take-at}
-use mir.Syntax.{w64}
-use mir.Val.{SFits}
 use Rattle.laws.specs.Lists.{at}
 use Rattle.laws.proofs.Parts.{small-fits}
 use Rattle.record.specs.Answers.{bufferLeft}
@@ -21,12 +19,12 @@ use Rattle.record.specs.declared.Refusal.{Refusal}
 use Rattle.record.proofs.RangeLaws.{sample-bounded, bounded-sample}
 use Rattle.phr.specs.Bytes.{lowFirst, valuesBytes, valueAt, valuesFrom}
 use Rattle.phr.specs.File.{firstEight, header, fileOf, headerFrom, fileFrom, startFits, Proper, IsFile, ProperStart, IsFileFrom, AreBytes}
-use Rattle.phr.specs.Reading.{testsOf, soundUpTo, kindOf, countOf, headerTests, valuesOf, readRefusal, eitherTests, versionOf, headLength, startOf, recordValues, headerRefusal, readRecordRefusal, readRecordAnswer}
+use Rattle.phr.specs.Reading.{testsOf, soundUpTo, kindOf, countOf, headerTests, valuesOf, readRefusal, eitherTests, versionOf, startOf, recordValues, headerRefusal, readRecordRefusal, readRecordAnswer}
 use Rattle.phr.specs.Writing.{writeRecordRefusal}
 use Rattle.phr.proofs.ByteLaws.{bytes-joined}
 use Rattle.phr.proofs.RangeCases.{in-range-fits}
 use Rattle.phr.proofs.ReadCases.{ReadableRecord, first-head, first-start, second-head, second-start, readable-record-none, unrefused-record, record-values-length, sound-within, most-values-bounded, header-wrong, first-eight-wrong, start-fit}
-use Rattle.phr.proofs.RoundTrip.{first-eight-bytes, kind-there, count-there, version-there, first-eight-sound, eight-present, passed, kind-passed, eight-there, values-there, accepted-exactly}
+use Rattle.phr.proofs.RoundTrip.{first-eight-bytes, kind-there, count-there, version-there, first-eight-sound, passed, kind-passed, eight-there, values-there, accepted-exactly}
 use Rattle.phr.proofs.StartCases.{fit-passes, passes-fit}
 use Rattle.phr.proofs.WriteCases.{unrefused-from}
 use Rattle.phr.proofs.ValueLaws.{valueBytes, value-back, value-bytes-back, value-bytes-are-bytes, values-back, values-bytes-length, values-bytes-are-bytes}

@@ -1,5 +1,5 @@
 -- The cases of the refusal of values, 3 at the first that is outside the range of its kind, and what is known of values that are not refused.
-use mathlib.Core.Path.{_≡_, _∙_}
+use mathlib.Core.Path.{_≡_}
 use mathlib.Core.Bool.{true}
 use mathlib.Core.List.{List}
 use Prim.Native.Nat.{ℕ, _≤_, _<_}

@@ -7,7 +7,7 @@ use lib.Dec.{leb, ltb, eqb}
 use lib.IntN.{ℤ, pos, natAbs}
 use lib.ListN.{length, getD}
 use Rattle.laws.specs.Lists.{at, firstFailing}
-use Rattle.record.specs.Refusals.{refusedIf, inRange}
+use Rattle.record.specs.Refusals.{refusedIf}
 use Rattle.record.specs.declared.Refusal.{Refusal}
 use Rattle.phr.specs.Bytes.{lowFirst, twosComplement, valuesBytes}
 

@@ -1,13 +1,12 @@
 -- `phr::header_refusal` meets its contract: the start is read where the whole header is there.
 use borrow.Author.Needs.{needs}
 use mathlib.Core.Path.{_≡_, sym, ap, ap₂, _∙_}
-use mathlib.Core.Bool.{Bool}
 use Prim.Native.Nat.{_≤_}
 use native.Mathlib.Omega.{arith}
 use lib.ListN.{length}
 use Rattle.record.specs.Refusals.{refused}
 use Rattle.phr.specs.File.{startFits}
-use Rattle.phr.specs.Reading.{soundUpTo, kindOf, eitherTests, headLength, startOf, headerRefusal}
+use Rattle.phr.specs.Reading.{soundUpTo, kindOf, eitherTests, headLength, startOf}
 use Rattle.phr.proofs.ReadCases.{sound-within, first-eight-wrong, header-short, start-unfit, start-fit}
 use Rattle.phr.proofs.SignLaws.{loaded-value}
 use Rattle.phr.proofs.header_refusal.Statement.{statement}

@@ -10,7 +10,7 @@ use Rattle.record.specs.Refusals.{refusedIf, _then_, inRange}
 use Rattle.record.specs.declared.Refusal.{Refusal}
 use Rattle.record.proofs.RefusalLaws.{refusal-stands, none-gives-way}
 use Rattle.phr.specs.File.{valuesRefusal}
-use Rattle.phr.specs.Reading.{kindOf, eitherTests, countRefusal, headLength, startOf, recordValues, headerRefusal, readRecordRefusal}
+use Rattle.phr.specs.Reading.{kindOf, eitherTests, countRefusal, headLength, startOf, recordValues, readRecordRefusal}
 use Rattle.phr.proofs.ReadCases.{SoundHeader, Counted, sound-within, head-length-bounded, unrefused-header, unrefused-counted, count-refuses}
 use Rattle.phr.proofs.SignLaws.{loaded-value}
 use Rattle.phr.proofs.read_record_refusal.Statement.{statement}

@@ -3,7 +3,6 @@ use borrow.Author.Needs.{needs}
 use mathlib.Core.Path.{_≡_, sym, ap, _∙_}
 use Prim.Native.Nat.{_≤_}
 use native.Mathlib.Omega.{arith}
-use lib.ListN.{length}
 use Rattle.record.specs.Refusals.{refused}
 use Rattle.record.specs.declared.Refusal.{Refusal}
 use Rattle.record.proofs.RefusalLaws.{refusal-stands, none-gives-way}
