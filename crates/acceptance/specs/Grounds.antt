@@ -226,7 +226,7 @@ FarValue kind z = ((kind ≡ 0) × (2 ^ 40 < natAbs z)) ⊎ ((kind ≡ 1) × (2 
 abbrev pub Right : (ℕ → Type 0) → ℕ → ℕ → Type 0
 Right Known k b = (k ≡ 0 → b ≡ 0x50) × (k ≡ 1 → b ≡ 0x48) × (k ≡ 2 → b ≡ 0x52) × (k ≡ 3 → Known b) × (k ≡ 4 → b ≡ 0) × (k ≡ 5 → b ≤ 1)
 
--- the version is known to read_file, to read_record
+-- a version that read_file knows, and one that read_record knows
 abbrev pub FirstVersion : ℕ → Type 0
 FirstVersion b = b ≡ 1
 
@@ -255,11 +255,11 @@ module _ (bytes : List ℕ) (room : ℕ) where
     no-room : NoRow OfHeader → length bytes ≡ 8 + 8 * countOf bytes → room < countOf bytes → OfFile 6 0
     range : {i : ℕ} → NoRow OfHeader → length bytes ≡ 8 + 8 * countOf bytes → countOf bytes ≤ room → First (countOf bytes) (λ k. FarValue (kindOf bytes) (valueAt bytes (8 + 8 * k))) i → OfFile 3 i
 
-  -- read_record, up to the count: among the first eight bytes that are there, then the length if that is under the header's, 8 in version 1 and 16 in
-  -- version 2, then the start, which is 0 where the kind is
   abbrev pub WrongEither : ℕ → Type 0
   WrongEither k = WrongByte EitherVersion bytes k
 
+  -- read_record, up to the count: among the first eight bytes that are there, then the length if that is under the header's, 8 in version 1 and 16 in
+  -- version 2, then the start, which is 0 where the kind is
   pub data OfRecordHeader : ℕ → ℕ → Type 0 where
     wrong : {i : ℕ} → First (length bytes) WrongEither i → OfRecordHeader 9 i
     short : None (length bytes) WrongEither → length bytes < headLength bytes → OfRecordHeader 9 (length bytes)
