@@ -50,7 +50,7 @@ extern "C" {
 
 /** The version: the first number changes where a program that used the one before must be changed or compiled anew. */
 #define PLG_VERSION_MAJOR 5
-#define PLG_VERSION_MINOR 1
+#define PLG_VERSION_MINOR 2
 #define PLG_VERSION_PATCH 0
 
 /* ---- limits, ends allowed */
@@ -172,6 +172,12 @@ typedef struct { uint64_t number, place, kind, count; } plg_read_answer;
 
 /** A record file of either version: its version, 1 or 2, its kind, its starting phase, which is 0 in version 1, and how many values it holds. */
 typedef struct { uint64_t number, place, version, kind; int64_t start; uint64_t count; } plg_record_answer;
+
+/**
+ * What was salvaged of a damaged file: the count that its header says and how many values were kept, the bytes left over, which are the input's length less
+ * the new file's, and met, 1 where a value out of range was met, else 0.
+ */
+typedef struct { uint64_t number, place, old_count, new_count, left_over, met; } plg_salvage_answer;
 
 /** The length in bytes of the file of so many values, in version 1. */
 #define PLG_FILE_LENGTH(count) (8 + 8 * (size_t)(count))
@@ -336,6 +342,17 @@ plg_record_answer plg_read_record(const uint8_t *bytes, size_t bytes_length, int
  * length), 3 (start outside the sample range, at place 0), 3 (at the index of the first value outside its range).
  */
 plg_count_answer plg_write_record(uint64_t kind, int64_t start, const int64_t *values, size_t values_length, uint8_t *buffer, size_t buffer_length);
+
+/**
+ * Writes what can still be had of a damaged file of either version with a sound header, as a proper file of the same version, kind and starting phase.
+ * Looked at are the values that the header's count speaks of, as far as their eight bytes are all there; kept are those before the first that is
+ * outside the range of its kind, all where none is. The new file has bytes_length - left_over bytes, and plg_read_record accepts it. A sound file comes
+ * back byte for byte, with nothing left over. A buffer of bytes_length bytes is always long enough.
+ * Refuses 9 (at the lowest wrong byte of the first eight, else at the length where the header is short, which has 16 bytes in version 2, else at
+ * place 8 where the kind is 0 and the start is not 0), 2 (the header's count too large for the kind), 6 (buffer below the new file's length), 3 (start
+ * outside the sample range, at place 0). A wrong length and a value outside its range are no refusal here.
+ */
+plg_salvage_answer plg_salvage(const uint8_t *bytes, size_t bytes_length, uint8_t *buffer, size_t buffer_length);
 
 #ifdef __cplusplus
 }

@@ -269,6 +269,25 @@ pub struct RecordAnswer {
     pub count: u64,
 }
 
+/// What was salvaged of a damaged file.
+#[must_use]
+#[repr(C)]
+#[derive(Clone, Copy, Debug, PartialEq, Eq)]
+pub struct SalvageAnswer {
+    /// 0, or the refusal's number.
+    pub number: u64,
+    /// Where it was refused.
+    pub place: u64,
+    /// How many values the input's header says.
+    pub old_count: u64,
+    /// How many values were kept.
+    pub new_count: u64,
+    /// The input's length less the new file's.
+    pub left_over: u64,
+    /// 1 where a value outside its range was met, else 0.
+    pub met: u64,
+}
+
 extern "C" {
     /// The Allan sum A at factor m, with its count K.
     pub fn plg_allan_sum(samples: *const i64, samples_length: usize, m: u64) -> SumAnswer;
@@ -325,4 +344,6 @@ extern "C" {
     pub fn plg_read_record(bytes: *const u8, bytes_length: usize, buffer: *mut i64, buffer_length: usize) -> RecordAnswer;
     /// The file, version 2, of a kind, a starting phase and values, written to the buffer.
     pub fn plg_write_record(kind: u64, start: i64, values: *const i64, values_length: usize, buffer: *mut u8, buffer_length: usize) -> CountAnswer;
+    /// The proper file that can still be had of a damaged one of either version, written to the buffer.
+    pub fn plg_salvage(bytes: *const u8, bytes_length: usize, buffer: *mut u8, buffer_length: usize) -> SalvageAnswer;
 }

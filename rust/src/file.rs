@@ -54,6 +54,20 @@ pub struct Record {
     pub count: usize,
 }
 
+/// What was salvaged of a damaged file.
+#[must_use]
+#[derive(Clone, Copy, Debug, PartialEq, Eq)]
+pub struct Salvage {
+    /// How many values the header of the damaged file says.
+    pub old_count: usize,
+    /// How many values were kept.
+    pub new_count: usize,
+    /// The damaged file's length in bytes less the new one's.
+    pub left_over: usize,
+    /// Whether a value outside its range was met, which ended the values kept.
+    pub met: bool,
+}
+
 /// The length in bytes of the file of so many values, in version 1.
 pub const fn file_length(count: usize) -> usize {
     count.saturating_mul(8).saturating_add(8)
@@ -116,4 +130,39 @@ pub fn write_file(kind: Kind, values: &[i64], buffer: &mut [u8]) -> Result<usize
 /// range, at place 0), 3 (at the index of the first value outside its range).
 pub fn write_record(kind: Kind, start: i64, values: &[i64], buffer: &mut [u8]) -> Result<usize, Refusal> {
     count_of(unsafe { boundary::plg_write_record(kind.number(), start, values.as_ptr(), values.len(), buffer.as_mut_ptr(), buffer.len()) })
+}
+
+/// What can still be had of a damaged file of either version with a sound header, written to the buffer as a proper file of the same version, kind and
+/// starting phase. The new file's length is the damaged one's less [`left_over`](Salvage::left_over); a buffer as long as the damaged file is always
+/// long enough.
+///
+/// ```
+/// use ploegelster::{read_file, salvage, write_file, Kind};
+///
+/// let mut bytes = [0; 32];
+/// write_file(Kind::Phase, &[1, -1, 5], &mut bytes)?;
+/// // the last four bytes were lost
+/// let damaged = &bytes[..28];
+/// let mut buffer = [0; 28];
+/// let salvaged = salvage(damaged, &mut buffer)?;
+/// assert_eq!((salvaged.old_count, salvaged.new_count, salvaged.left_over, salvaged.met), (3, 2, 4, false));
+/// let file = &buffer[..damaged.len() - salvaged.left_over];
+/// let mut samples = [0; 2];
+/// assert_eq!(read_file(file, &mut samples)?.count, 2);
+/// assert_eq!(samples, [1, -1]);
+/// # Ok::<(), ploegelster::Refusal>(())
+/// ```
+///
+/// Refuses 9 (at the lowest wrong byte of the first eight, else at the length where the header is short, which has 16 bytes in version 2, else at
+/// place 8 where the kind is 0 and the start is not 0), 2 (the header's count too large for the kind), 6 (buffer below the new file's length), 3 (start
+/// outside the sample range, at place 0). A wrong length and a value outside its range are no refusal here.
+pub fn salvage(bytes: &[u8], buffer: &mut [u8]) -> Result<Salvage, Refusal> {
+    let answer = unsafe { boundary::plg_salvage(bytes.as_ptr(), bytes.len(), buffer.as_mut_ptr(), buffer.len()) };
+    answered(answer.number, answer.place)?;
+    Ok(Salvage {
+        old_count: answer.old_count as usize,
+        new_count: answer.new_count as usize,
+        left_over: answer.left_over as usize,
+        met: answer.met != 0,
+    })
 }
