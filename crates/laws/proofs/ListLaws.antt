@@ -30,6 +30,13 @@ unfolding tabulate
 tabulate-equal zero f g h = refl
 tabulate-equal (suc n) f g h = ap₂ _∷_ (h 0 (omega arith)) (tabulate-equal n (λ i. f (suc i)) (λ i. g (suc i)) (λ i k. h (suc i) (omega arith)))
 
+-- the first of them
+pub tabulate-front : {A : Type 0} (k n : ℕ) (f : ℕ → A) → k ≤ n → take k (tabulate n f) ≡ tabulate k f
+unfolding tabulate
+tabulate-front zero n f h = refl
+tabulate-front (suc k) zero f h = absurd (omega arith)
+tabulate-front (suc k) (suc n) f h = ap (λ xs. f 0 ∷ xs) (tabulate-front k n (λ i. f (suc i)) (omega arith))
+
 -- a list is the list of its entries
 pub tabulate-of : {A : Type 0} (xs : List A) (z : A) → tabulate (length xs) (λ i. getD xs i z) ≡ xs
 unfolding tabulate

@@ -10,10 +10,10 @@ use lib.Dec.{ltb, eqb}
 use lib.IntN.{pos}
 use lib.ListN.{length}
 use Rattle.record.specs.Refusals.{none, refused, refusedIf, _then_, inRange}
-use Rattle.record.proofs.RefusalLaws.{refusal-stands, first-refuses-nothing, rest-refuses-nothing, test-fails}
+use Rattle.record.proofs.RefusalLaws.{refusal-stands, none-gives-way, first-refuses-nothing, rest-refuses-nothing, test-fails}
 use Rattle.phr.specs.Bytes.{valueAt}
 use Rattle.phr.specs.File.{mostValues, startFits, valuesRefusal}
-use Rattle.phr.specs.Reading.{soundUpTo, kindOf, countOf, countRefusal, headerTests, valuesOf, readRefusal, eitherTests, versionOf, headLength, startOf, recordValues, headerRefusal, readRecordRefusal}
+use Rattle.phr.specs.Reading.{soundUpTo, kindOf, countOf, countRefusal, headerTests, valuesOf, readRefusal, eitherTests, versionOf, headLength, startOf, recordValues, headerRefusal, countedHeaderRefusal, readRecordRefusal}
 use Rattle.phr.proofs.ValueCases.{AllInRange, in-range-none, unrefused-in-range}
 use Rattle.phr.proofs.ValueLaws.{values-from-length}
 
@@ -202,6 +202,22 @@ module _ (bytes : List ℕ) where
         present = ltb-false (length bytes) (headLength bytes) (test-fails _ 9 _ (omega arith) (first-refuses-nothing short start after-first));
         start-fits = not-false fits (test-fails _ 9 8 (omega arith) (rest-refuses-nothing short start after-first));
       }
+
+  -- the header with its count
+  pub too-many-said : headerRefusal bytes .number ≡ 0 → mostValues (kindOf bytes) < countOf bytes → countedHeaderRefusal bytes ≡ refused 2 0
+  unfolding countedHeaderRefusal
+  too-many-said e h = none-gives-way (headerRefusal bytes) _ e ∙ rw (lt-ltb (mostValues (kindOf bytes)) (countOf bytes) h)
+
+  pub few-said : headerRefusal bytes .number ≡ 0 → countOf bytes ≤ mostValues (kindOf bytes) → countedHeaderRefusal bytes ≡ none
+  unfolding countedHeaderRefusal
+  few-said e h = none-gives-way (headerRefusal bytes) _ e ∙ rw (le-ltb (mostValues (kindOf bytes)) (countOf bytes) h)
+
+  pub unrefused-counted-header : countedHeaderRefusal bytes .number ≡ 0 → SoundHeader bytes × (countOf bytes ≤ mostValues (kindOf bytes))
+  unfolding countedHeaderRefusal
+  unrefused-counted-header e = let many = refusedIf (ltb (mostValues (kindOf bytes)) (countOf bytes)) 2 0 in (
+    unrefused-header (first-refuses-nothing (headerRefusal bytes) many e),
+    ltb-false (mostValues (kindOf bytes)) (countOf bytes) (test-fails _ 2 0 (omega arith) (rest-refuses-nothing (headerRefusal bytes) many e)),
+  )
 
   module _ (room : ℕ) where
     -- a count that is refused is the answer, whatever the start and the values are

@@ -23,7 +23,7 @@ use Rattle.phr.specs.Reading.{testsOf, soundUpTo, kindOf, countOf, heade
 use Rattle.phr.specs.Writing.{writeRecordRefusal}
 use Rattle.phr.proofs.ByteLaws.{bytes-joined}
 use Rattle.phr.proofs.RangeCases.{in-range-fits}
-use Rattle.phr.proofs.ReadCases.{ReadableRecord, first-head, first-start, second-head, second-start, readable-record-none, unrefused-record, record-values-length, sound-within, most-values-bounded, header-wrong, first-eight-wrong, start-fit}
+use Rattle.phr.proofs.ReadCases.{SoundHeader, ReadableRecord, first-head, first-start, second-head, second-start, readable-record-none, unrefused-record, record-values-length, sound-within, most-values-bounded, header-wrong, first-eight-wrong, start-fit}
 use Rattle.phr.proofs.RoundTrip.{first-eight-bytes, kind-there, count-there, version-there, first-eight-sound, passed, kind-passed, eight-there, values-there, accepted-exactly}
 use Rattle.phr.proofs.StartCases.{fit-passes, passes-fit}
 use Rattle.phr.proofs.WriteCases.{unrefused-from}
@@ -82,11 +82,10 @@ module _ (bytes : List ℕ) (first : versionOf bytes ≡ 2 → ⊥) where
   unfolding readRecordRefusal readRefusal inRange
   as-first-version room = rw (header-as-first, first-head bytes first, first-start bytes first, first-values)
 
-  pub first-version : (room : ℕ) → readRecordRefusal bytes room ≡ none → versionOf bytes ≡ 1
+  pub first-version : SoundHeader bytes → versionOf bytes ≡ 1
   unfolding versionOf eitherTests testsOf
-  first-version room accepted =
-      let sound = unrefused-record bytes room (ap (λ (r : Refusal). r .number) accepted) .header .sound in
-      one-known (getD bytes 3 0) (eqb (getD bytes 3 0) 1) refl (ne-eqb (getD bytes 3 0) 2 first) (passed _ bytes sound 3 (omega arith))
+  first-version header =
+      one-known (getD bytes 3 0) (eqb (getD bytes 3 0) 1) refl (ne-eqb (getD bytes 3 0) 2 first) (passed _ bytes (header .sound) 3 (omega arith))
     where
       one-known : (b : ℕ) (is : Bool) → eqb b 1 ≡ is → eqb b 2 ≡ false → (eqb b 1 || eqb b 2) ≡ true → b ≡ 1
       one-known b true e f t = eqb-true b 1 e
@@ -189,6 +188,19 @@ buffer-has-file-from kind start values buffer unrefused = rw unrefused (take-at 
 
 -- ---- version 2: what is read was written
 
+-- a sound header is that of its kind, its start and its count
+module _ (bytes : List ℕ) (all : AreBytes bytes) (sound : SoundHeader bytes) where
+  pub first-header : (versionOf bytes ≡ 2 → ⊥) → take 8 bytes ≡ header (kindOf bytes) (countOf bytes)
+  unfolding header eitherTests
+  first-header first = eight-there (λ b. eqb b 1 || eqb b 2) bytes (sound .sound) all (omega arith) (first-version bytes first sound)
+
+  pub second-header : versionOf bytes ≡ 2 → take 16 bytes ≡ headerFrom (kindOf bytes) (startOf bytes) (countOf bytes)
+  unfolding headerFrom eitherTests
+  second-header second =
+      take-add 8 8 bytes
+      ∙ ap₂ _++_ (eight-there (λ b. eqb b 1 || eqb b 2) bytes (sound .sound) all (omega arith) second)
+      (sym (value-bytes-back bytes 8 all (omega (arith, sound .present, second-head bytes second))) ∙ ap valueBytes (sym (second-start bytes second)))
+
 module _ (bytes : List ℕ) (all : AreBytes bytes) (room : ℕ) (second : versionOf bytes ≡ 2) (accepted : readRecordRefusal bytes room ≡ none) where
   readable : ReadableRecord bytes room
   readable = unrefused-record bytes room (ap (λ (r : Refusal). r .number) accepted)
@@ -200,18 +212,11 @@ module _ (bytes : List ℕ) (all : AreBytes bytes) (room : ℕ) (second : versio
   unfolding recordValues
   record-values-there = rw (second-head bytes second)
 
-  header-there : take 16 bytes ≡ headerFrom (kindOf bytes) (startOf bytes) (countOf bytes)
-  unfolding headerFrom eitherTests
-  header-there =
-      take-add 8 8 bytes
-      ∙ ap₂ _++_ (eight-there (λ b. eqb b 1 || eqb b 2) bytes (readable .header .sound) all (omega arith) second)
-      (sym (value-bytes-back bytes 8 all (omega (arith, whole))) ∙ ap valueBytes (sym (second-start bytes second)))
-
   accepted-is-file-from : bytes ≡ fileFrom (kindOf bytes) (startOf bytes) (recordValues bytes)
   unfolding fileFrom
   accepted-is-file-from =
       sym (take-append-drop 16 bytes)
-      ∙ ap₂ _++_ (header-there ∙ ap (headerFrom (kindOf bytes) (startOf bytes)) (sym (record-values-length bytes)))
+      ∙ ap₂ _++_ (second-header bytes all (readable .header) second ∙ ap (headerFrom (kindOf bytes) (startOf bytes)) (sym (record-values-length bytes)))
       (values-there 16 bytes all whole ∙ ap valuesBytes (sym record-values-there))
 
   pub accepted-from : IsFileFrom bytes room

@@ -6,13 +6,13 @@ use native.Mathlib.Nat.{div-div-eq-div-mul}
 use native.Mathlib.Numerals.{add-one, add-two, add-three, add-four, add-five, add-six, add-seven}
 use native.Mathlib.Omega.{arith}
 use lib.IntN.{ℤ, pos}
-use lib.ListN.{length, getD, take, drop, set, length-append, length-drop}
-use lib.Seq.{drop-cons, drop-drop, take-add, take-suc, length-take-le, take-length, take-at, drop-at}
+use lib.ListN.{length, getD, take, drop, set, length-append, length-drop, take-append-drop}
+use lib.Seq.{drop-cons, drop-drop, take-add, take-suc, length-take-le, take-length, take-append-le, drop-append-le, take-at, drop-at}
 use lib.Signed.{mag}
 use mir.Syntax.{w64}
 use mir.Val.{SFits, toZ, ofZ}
 use Rattle.laws.specs.Lists.{at, tabulate}
-use Rattle.laws.proofs.ListLaws.{tabulate-length, tabulate-entry, tabulate-equal}
+use Rattle.laws.proofs.ListLaws.{tabulate-length, tabulate-entry, tabulate-equal, tabulate-front}
 use Rattle.phr.specs.Bytes.{lowFirst, fromLowFirst, twosComplement, valuesBytes, valueAt, valuesFrom}
 use Rattle.phr.specs.File.{AreBytes}
 use Rattle.phr.proofs.ByteLaws.{writtenFrom, written-from-none, written-from-next, stores-from, bytes-taken, bytes-dropped, bytes-joined, low-first-length, low-first-bytes, low-first-back, from-low-first-below, from-low-first-back, from-low-first-append}
@@ -157,6 +157,33 @@ module _ (place count : ℕ) (bytes : List ℕ) where
     pub values-from-entry : {v : ℤ} → v ≡ valueAt bytes (place + 8 * i) → mag v < 2 ^ 63 → toZ w64 (ofZ w64 v) ≡ at (valuesFrom place count bytes) i
     values-from-entry e fits =
         loaded-value _ fits ∙ e ∙ sym (tabulate-entry count (λ k. valueAt bytes (place + 8 * k)) (pos 0) i inside)
+
+-- ---- values of a part of the bytes
+
+value-in-front : (front rest : List ℕ) (place : ℕ) → place + 8 ≤ length front → valueAt front place ≡ valueAt (front ++ rest) place
+unfolding valueAt
+value-in-front front rest place h =
+    rw (drop-append-le place front rest (omega arith), take-append-le 8 (drop place front) rest (omega (arith, length-drop place front)))
+
+value-past : (bytes : List ℕ) (place next : ℕ) → valueAt (drop place bytes) next ≡ valueAt bytes (place + next)
+unfolding valueAt
+value-past bytes place next = rw drop-drop
+
+pub part-values : (place count : ℕ) (bytes : List ℕ) → place + 8 * count ≤ length bytes →
+    valuesFrom 0 count (take (8 * count) (drop place bytes)) ≡ valuesFrom place count bytes
+part-values place count bytes inside =
+    let behind = drop place bytes in
+    let part = take (8 * count) behind in
+    let whole : length part ≡ 8 * count = length-take-le (8 * count) behind (omega (arith, length-drop place bytes)) in
+    tabulate-equal count (λ i. valueAt part (0 + 8 * i)) (λ i. valueAt bytes (place + 8 * i)) (λ i h.
+      ap (valueAt part) (omega arith)
+      ∙ value-in-front part (drop (8 * count) behind) (8 * i) (omega (arith, whole))
+      ∙ ap (λ (xs : List ℕ). valueAt xs (8 * i)) (take-append-drop (8 * count) behind)
+      ∙ value-past bytes place (8 * i))
+
+-- fewer of them are the first
+pub fewer-values : (place few count : ℕ) (bytes : List ℕ) → few ≤ count → take few (valuesFrom place count bytes) ≡ valuesFrom place few bytes
+fewer-values place few count bytes h = tabulate-front few count (λ i. valueAt bytes (place + 8 * i)) h
 
 -- ---- values that are written one by one, from a place on
 

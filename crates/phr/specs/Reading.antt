@@ -91,6 +91,10 @@ headerRefusal bytes =
     then refusedIf (ltb (length bytes) (headLength bytes)) 9 (length bytes)
     then refusedIf (not (startFits (kindOf bytes) (startOf bytes))) 9 8
 
+-- the header; 2 for a count above the kind's, whatever follows
+unfoldable pub countedHeaderRefusal : List ℕ → Refusal
+countedHeaderRefusal bytes = headerRefusal bytes then refusedIf (ltb (mostValues (kindOf bytes)) (countOf bytes)) 2 0
+
 -- the header; 2, 9 and 6 by the count; 3 at place 0 for a start outside the sample range; 3 at the first value outside its range
 unfoldable pub readRecordRefusal : List ℕ → ℕ → Refusal
 readRecordRefusal bytes room =
@@ -100,9 +104,15 @@ readRecordRefusal bytes room =
     then valuesRefusal (kindOf bytes) (recordValues bytes)
 
 -- version, kind, start and count, or the refusal and noughts
-unfoldable pub readRecordAnswer : List ℕ → ℕ → RecordAnswer
-readRecordAnswer bytes room =
-    let refusal : Refusal = readRecordRefusal bytes room in
+abbrev pub recordAnswer : Refusal → List ℕ → RecordAnswer
+recordAnswer refusal bytes =
     cond (eqb (refusal .number) 0)
     (record { number = 0; place = 0; version = versionOf bytes; kind = kindOf bytes; start = startOf bytes; count = countOf bytes })
     (record { number = refusal .number; place = refusal .place; version = 0; kind = 0; start = pos 0; count = 0 })
+
+-- of the file, and of the header alone
+unfoldable pub readRecordAnswer : List ℕ → ℕ → RecordAnswer
+readRecordAnswer bytes room = recordAnswer (readRecordRefusal bytes room) bytes
+
+unfoldable pub headerAnswer : List ℕ → RecordAnswer
+headerAnswer bytes = recordAnswer (countedHeaderRefusal bytes) bytes

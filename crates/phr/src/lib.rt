@@ -8,11 +8,15 @@ use crate::refusals::refused;
 use record::CountAnswer;
 use record::Refusal;
 ghost use mathlib.Core.Path.{_≡_};
-ghost use Prim.Native.Nat.{_+_, _*_};
+ghost use Prim.Native.Nat.{_+_, _*_, _/_, _≤_};
 ghost use lib.ListN.{length};
+ghost use Rattle.laws.specs.Lists.{firstFailing};
+ghost use lib.IntN.{pos};
+ghost use Rattle.record.specs.Refusals.{none};
 ghost use Rattle.record.specs.Answers.{countAnswer, bufferLeft};
-ghost use Rattle.phr.specs.File.{fileOf, fileFrom};
-ghost use Rattle.phr.specs.Reading.{valuesOf, readRefusal, readAnswer, recordValues, headerRefusal, readRecordRefusal, readRecordAnswer};
+ghost use Rattle.phr.specs.Bytes.{valuesFrom};
+ghost use Rattle.phr.specs.File.{fileOf, fileFrom, valueInRange};
+ghost use Rattle.phr.specs.Reading.{valuesOf, readRefusal, readAnswer, headLength, recordValues, headerRefusal, countedHeaderRefusal, recordAnswer, headerAnswer, readRecordRefusal, readRecordAnswer};
 ghost use Rattle.phr.specs.Writing.{writeRefusal, writeRecordRefusal};
 
 // The kind of a file of version 1 and how many values it holds.
@@ -90,25 +94,15 @@ pub fn read_record(bytes: &[u8], buffer: &mut [i64]) -> RecordAnswer
     let refusal = read_record_refusal(bytes, buffer.len());
     let number = refusal.number;
     if number != 0 {
-        return RecordAnswer {
-            number,
-            place: refusal.place,
-            version: 0,
-            kind: 0,
-            start: 0,
-            count: 0,
-        };
+        return refused_record(number, refusal.place);
     }
-    let count = header::count_of(bytes);
-    values::read_values(bytes, header::head_length(bytes), count, buffer);
-    RecordAnswer {
-        number: 0,
-        place: 0,
-        version: header::version_of(bytes),
-        kind: header::kind_of(bytes),
-        start: header::start_of(bytes),
-        count: count as u64,
-    }
+    values::read_values(
+        bytes,
+        header::head_length(bytes),
+        header::count_of(bytes),
+        buffer,
+    );
+    said(bytes)
 }
 
 // Writes the file, version 2, of a kind, a starting phase and values to the front of the buffer. Refuses 9 at place 5, 9 at place 8, 2, 6, 3 at place 0
@@ -130,6 +124,25 @@ pub fn write_record(kind: u64, start: i64, values: &[i64], buffer: &mut [u8]) ->
         place: 0,
         count: 16 + 8 * values.len() as u64,
     }
+}
+
+// What the header of a file of either version says, whatever follows it. Refuses 9 at a header byte, at the length of a short header or at 8, then 2.
+pub fn read_header(bytes: &[u8]) -> RecordAnswer
+    ensures { λ r. ⌜ r ≡ headerAnswer (now (bytes .entry)) ⌝ }
+{
+    let refusal = counted_header_refusal(bytes);
+    let number = refusal.number;
+    if number != 0 {
+        return refused_record(number, refusal.place);
+    }
+    said(bytes)
+}
+
+// How many values, of those that the bytes hold one after the other, come before the first outside the range of their kind: all where none is.
+pub fn good_values(bytes: &[u8], kind: u64) -> usize
+    ensures { λ r. ⌜ r ≡ firstFailing (valueInRange kind) (valuesFrom 0 (length (now (bytes .entry)) / 8) (now (bytes .entry))) ⌝ }
+{
+    values::first_outside(bytes, 0, kind, bytes.len() / 8)
 }
 
 // What a file of version 1 is refused for, with room for so many values.
@@ -195,6 +208,49 @@ fn header_refusal(bytes: &[u8]) -> Refusal
         return refused(0, 0);
     }
     refused(record::BAD_FILE, 8)
+}
+
+// What the header of a file of either version is refused for, its count too.
+fn counted_header_refusal(bytes: &[u8]) -> Refusal
+    ensures { λ r. ⌜ r ≡ countedHeaderRefusal (now (bytes .entry)) ⌝ }
+{
+    let refusal = header_refusal(bytes);
+    if refusal.number != 0 {
+        return refusal;
+    }
+    if header::most_values(header::kind_of(bytes)) < header::count_of(bytes) {
+        return refused(record::TOO_MANY, 0);
+    }
+    refused(0, 0)
+}
+
+// What a header that is there says.
+fn said(bytes: &[u8]) -> RecordAnswer
+    requires { ⌜ (8 ≤ length (now bytes)) × (headLength (now bytes) ≤ length (now bytes)) ⌝ }
+    ensures { λ r. ⌜ r ≡ recordAnswer none (now (bytes .entry)) ⌝ }
+{
+    RecordAnswer {
+        number: 0,
+        place: 0,
+        version: header::version_of(bytes),
+        kind: header::kind_of(bytes),
+        start: header::start_of(bytes),
+        count: header::count_of(bytes) as u64,
+    }
+}
+
+// Noughts beside a refusal.
+fn refused_record(number: u64, place: u64) -> RecordAnswer
+    ensures { λ r. ⌜ r ≡ record { number = number; place = place; version = 0; kind = 0; start = pos 0; count = 0 } ⌝ }
+{
+    RecordAnswer {
+        number,
+        place,
+        version: 0,
+        kind: 0,
+        start: 0,
+        count: 0,
+    }
 }
 
 // What the file of a kind, a start and values, version 2, is refused for, with room for so many bytes.
