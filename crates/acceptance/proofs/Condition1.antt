@@ -4,7 +4,7 @@
 -- stand in crates/laws/specs/Single.antt, the noughts in specs/Noughts.antt. When exactly a call is refused, by which number at which place, is told by
 -- Grounds.antt. No public function has a `requires`, and none is an exception.
 use mathlib.Core.Path.{_≡_, refl, sym, ap, _∙_}
-use Prim.Native.Nat.{ℕ, _*_, _%_, _≤_}
+use Prim.Native.Nat.{ℕ, _-_, _*_, _%_, _≤_}
 use borrow.Fn.Kinds.{endedOf}
 use denote.Ref.{now}
 use denote.Triple.Clauses.{atExit}
@@ -105,7 +105,7 @@ use Rattle.meter.proofs.Meter.sample.Reads as meter-sample
 use Rattle.meter.proofs.Meter.sample.Kinds as meter-sample-kinds
 use Rattle.meter.proofs.Meter.report.Reads as meter-report
 use Rattle.meter.proofs.Meter.report.Kinds as meter-report-kinds
-use Rattle.phr.proofs.Unique.{read-file-single, write-file-single, read-record-single, write-record-single}
+use Rattle.phr.proofs.Unique.{read-file-single, write-file-single, read-record-single, write-record-single, read-header-single, good-values-single}
 use Rattle.phr.proofs.RoundTrip.{file-length}
 use Rattle.phr.proofs.RecordRoundTrip.{file-from-length}
 use Rattle.phr.proofs.read_file.Reads as read-file
@@ -116,6 +116,13 @@ use Rattle.phr.proofs.read_record.Reads as read-record
 use Rattle.phr.proofs.read_record.Kinds as read-record-kinds
 use Rattle.phr.proofs.write_record.Reads as write-record
 use Rattle.phr.proofs.write_record.Kinds as write-record-kinds
+use Rattle.phr.proofs.read_header.Reads as read-header
+use Rattle.phr.proofs.read_header.Kinds as read-header-kinds
+use Rattle.phr.proofs.good_values.Reads as good-values
+use Rattle.phr.proofs.good_values.Kinds as good-values-kinds
+use Rattle.mending.proofs.Unique.{salvage-single}
+use Rattle.mending.proofs.salvage.Reads as salvage
+use Rattle.mending.proofs.salvage.Kinds as salvage-kinds
 use Rattle.ploegelster.proofs.Unique.{plg-allan-dot-single, plg-time-dot-single, plg-noise-type-single, plg-noise-of-record-single, plg-bars-single}
 use Rattle.ploegelster.specs.Boundary.{toldDot, toldNoise, barsByAlpha}
 use Rattle.ploegelster.proofs.Told.{type-by-alpha, alpha-of-none}
@@ -134,6 +141,7 @@ use Rattle.ploegelster.proofs.files.plg_read_file.Reads as plg-read-file
 use Rattle.ploegelster.proofs.files.plg_write_file.Reads as plg-write-file
 use Rattle.ploegelster.proofs.files.plg_read_record.Reads as plg-read-record
 use Rattle.ploegelster.proofs.files.plg_write_record.Reads as plg-write-record
+use Rattle.ploegelster.proofs.files.plg_salvage.Reads as plg-salvage
 use Rattle.ploegelster.proofs.drawing.plg_drawn_number.Reads as plg-drawn-number
 use Rattle.ploegelster.proofs.drawing.plg_allan_dot.Reads as plg-allan-dot
 use Rattle.ploegelster.proofs.drawing.plg_allan_dot.Kinds as plg-allan-dot-kinds
@@ -150,7 +158,7 @@ use Rattle.ploegelster.proofs.drawing.plg_noise_of_record.Kinds as plg-noise-of
 use Rattle.ploegelster.proofs.drawing.plg_bars.Reads as plg-bars
 use Rattle.ploegelster.proofs.drawing.plg_bars.Kinds as plg-bars-kinds
 use Rattle.acceptance.specs.Noughts.{Refused, SumNought, PartsNought, PartsApart, DotNought, BarsNought}
-use Rattle.acceptance.proofs.NoughtLaws.{count-noughts, past-the-count, read-noughts, past-the-values, record-noughts, past-the-record, sum-noughts, float-noughts, float-part-noughts, past-the-samples, report-noughts, report-part-noughts, drift-noughts, meter-as-it-came, ring-as-it-came, other-slots-unchanged, own-slot-written, drawn-noughts, dot-noughts, told-dot-noughts, fraction-noughts, deviation-noughts, alpha-nought, bars-noughts, alpha-bars-noughts}
+use Rattle.acceptance.proofs.NoughtLaws.{count-noughts, past-the-count, read-noughts, past-the-values, record-noughts, past-the-record, sum-noughts, float-noughts, float-part-noughts, past-the-samples, report-noughts, report-part-noughts, drift-noughts, meter-as-it-came, ring-as-it-came, other-slots-unchanged, own-slot-written, drawn-noughts, dot-noughts, told-dot-noughts, fraction-noughts, deviation-noughts, alpha-nought, bars-noughts, alpha-bars-noughts, header-noughts, salvage-noughts, past-the-salvaged}
 
 -- ---- wide: whole numbers of 128 bits; nothing is refused
 
@@ -386,6 +394,27 @@ pub write-record-past : Always 2 write-record-kinds.ps write-record-kinds.r writ
     (λ κs args z w. let buffer = now (args .1 .1 .1 .0) in let left = w .1 .1 .1 .0 in (i : ℕ) (e : ℕ) → z .count ≤ i → getD left i e ≡ getD buffer i e)
 write-record-past κs args z w is = rw (is .0, is .1) (past-the-count _ _ _ _ (file-from-length _ _ _))
 
+pub read-header-settled : Settled 1 read-header-kinds.ps read-header-kinds.r read-header.Post
+    (λ κs args z w. Refused (z .number) → (z .version ≡ 0) × (z .kind ≡ 0) × (z .start ≡ pos 0) × (z .count ≡ 0))
+read-header-settled = (read-header-single, λ κs args z w is. rw is (header-noughts _))
+
+-- it refuses nothing
+pub good-values-one-answer : Single 1 good-values-kinds.ps good-values-kinds.r good-values.Post
+good-values-one-answer = good-values-single
+
+-- ---- mending
+
+pub salvage-settled : Settled 2 salvage-kinds.ps salvage-kinds.r salvage.Post
+    (λ κs args z w. let buffer = now (args .1 .0) in let left = w .1 .0 in
+    Refused (z .number) → (z .«old_count» ≡ 0) × (z .«new_count» ≡ 0) × (z .«left_over» ≡ 0) × (z .met ≡ 0) × (left ≡ buffer))
+salvage-settled = (salvage-single, λ κs args z w is. rw (is .0, is .1) (salvage-noughts _ _))
+
+-- the new file has the input's length less what is left over
+pub salvage-past : Always 2 salvage-kinds.ps salvage-kinds.r salvage.Post
+    (λ κs args z w. let bytes = now (args .0) in let buffer = now (args .1 .0) in let left = w .1 .0 in
+    (i e : ℕ) → length bytes - z .«left_over» ≤ i → getD left i e ≡ getD buffer i e)
+salvage-past κs args z w is = rw (is .0, is .1) (past-the-salvaged (now (args .0)) (now (args .1 .0)))
+
 -- ---- ploegelster, the library that an app links: each contract is the entry's own (NAME-is), so that all that is said of the entry holds of it
 
 pub plg-allan-sum-is : plg-allan-sum.Post ≡ allan-sum.Post
@@ -503,3 +532,6 @@ plg-read-record-is = refl
 
 pub plg-write-record-is : plg-write-record.Post ≡ write-record.Post
 plg-write-record-is = refl
+
+pub plg-salvage-is : plg-salvage.Post ≡ salvage.Post
+plg-salvage-is = refl

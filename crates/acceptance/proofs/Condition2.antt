@@ -82,7 +82,7 @@ use Rattle.noise.proofs.bars.bars.Reads as bars
 use Rattle.noise.proofs.bars.bars.Kinds as bars-kinds
 use Rattle.phr.specs.Bytes.{lowFirst, twosComplement, valuesBytes}
 use Rattle.phr.specs.File.{firstEight, header, fileOf, fileFrom, IsFile, IsFileFrom, AreBytes}
-use Rattle.phr.specs.Reading.{readAnswer}
+use Rattle.phr.specs.Reading.{readAnswer, readRecordAnswer}
 use Rattle.phr.proofs.RecordRoundTrip.{second-version-refused, unrefused-proper-from}
 use Rattle.phr.proofs.read_file.Reads as read-file
 use Rattle.phr.proofs.read_file.Kinds as read-file-kinds
@@ -92,9 +92,12 @@ use Rattle.phr.proofs.read_record.Reads as read-record
 use Rattle.phr.proofs.read_record.Kinds as read-record-kinds
 use Rattle.phr.proofs.write_record.Reads as write-record
 use Rattle.phr.proofs.write_record.Kinds as write-record-kinds
+use Rattle.mending.specs.Salvage.{keptValues, salvagedFile}
+use Rattle.mending.proofs.salvage.Reads as salvage
+use Rattle.mending.proofs.salvage.Kinds as salvage-kinds
 use Rattle.acceptance.specs.Figures.{sumIs, fractionIs, squares}
 use Rattle.acceptance.specs.Grounds
-use Rattle.acceptance.specs.Promises.{SumOf, PartsOf, Changed, FractionOf, BackAndForth, GivenBack, DotOf, ToldAs, TypeByTable, NoiseOf, HalfOf, BarsOf, DriftRemoved, ConstantDrift, ReadsBack, RecordReadsBack, ReadAlike}
+use Rattle.acceptance.specs.Promises.{SumOf, PartsOf, Changed, FractionOf, BackAndForth, GivenBack, DotOf, ToldAs, TypeByTable, NoiseOf, HalfOf, BarsOf, DriftRemoved, ConstantDrift, ReadsBack, RecordReadsBack, ReadAlike, ReadsSalvaged, AddsUp, MetBy, ComesBack}
 use Rattle.acceptance.proofs.Grounding.{answered-none}
 use Rattle.acceptance.proofs.RecordGrounds.{record-agrees, multiple-agrees}
 use Rattle.acceptance.proofs.FigureGrounds.{fraction-agrees, deviation-agrees, dotted-none}
@@ -104,8 +107,10 @@ use Rattle.acceptance.proofs.TypeGrounds.{type-agrees, bars-agree, alph
 use Rattle.acceptance.proofs.RecordTypeGrounds.{record-type-agrees}
 use Rattle.acceptance.proofs.FileGrounds.{writing-agrees, reading-agrees}
 use Rattle.acceptance.proofs.VersionGrounds.{record-writing-agrees, record-reading-agrees}
-use Rattle.acceptance.proofs.Grounds.{allan-sum-grounds, modified-sum-grounds, allan-fraction-grounds, time-fraction-grounds, allan-deviation-grounds, time-deviation-grounds, phase-from-frequency-grounds, phase-from-start-grounds, frequency-from-phase-grounds, drift-figure-grounds, remove-drift-grounds, float-sums-grounds, drawn-number-grounds, allan-dot-grounds, time-dot-grounds, noise-type-grounds, noise-of-record-grounds, plg-noise-type-grounds, plg-noise-of-record-grounds, bars-grounds, plg-bars-grounds, read-file-grounds, write-file-grounds, read-record-grounds, write-record-grounds}
+use Rattle.acceptance.proofs.SalvageGrounds.{salvage-agrees}
+use Rattle.acceptance.proofs.Grounds.{allan-sum-grounds, modified-sum-grounds, allan-fraction-grounds, time-fraction-grounds, allan-deviation-grounds, time-deviation-grounds, phase-from-frequency-grounds, phase-from-start-grounds, frequency-from-phase-grounds, drift-figure-grounds, remove-drift-grounds, float-sums-grounds, drawn-number-grounds, allan-dot-grounds, time-dot-grounds, noise-type-grounds, noise-of-record-grounds, plg-noise-type-grounds, plg-noise-of-record-grounds, bars-grounds, plg-bars-grounds, read-file-grounds, write-file-grounds, read-record-grounds, write-record-grounds, salvage-grounds}
 use Rattle.acceptance.proofs.PromiseLaws.{allan-sum-of, modified-sum-of, phases-from-of, phases-left, phases-of, differences-of, differences-left, back-and-forth, record-given-back, readings-given-back, square-of-half, drift-of, divisor-some, result-of, drift-removed, one-result, same-slope, constant-slope, line-left, float-sums-of, one-nearest, unchanged-samples-of, whole-samples-of, reads-files-alone, reads-every-file, count-of, output-left, file-left, one-value-unrefused, written-proper, reads-back, reads-records-alone, reads-every-record, file-from-left, record-reads-back, reads-alike, version-is-1, drawn-of, dot-told, allan-dot-of, time-dot-of, allan-fraction-of, time-fraction-of, allan-deviation-of, time-deviation-of, allan-deviation-of-record, time-deviation-of-record, type-of, noise-of, bars-of, half-below-deviation, low-above-nought}
+use Rattle.acceptance.proofs.SalvageLaws.{new-count-is, salvaged-left, adds-up, met-by, reads-salvaged, comes-back, salvaged-comes-back}
 use Rattle.acceptance.proofs.Figures.{starred-figures}
 
 -- ---- the published sums: x the record, N its length, m the factor
@@ -537,6 +542,54 @@ unfolding readAnswer
 second-version-refused-at-3 κs args z w is rest begins =
     let refusal = second-version-refused (0x50 ∷ 0x48 ∷ 0x52 ∷ 0x02 ∷ rest) (length (now (args .1 .0))) (omega arith) refl refl refl refl in
     rw (is .0, begins, refusal) (refl, refl)
+
+-- ---- salvage of a damaged file
+
+-- What comes out is read: with the version, kind and start of the input, and its values are the longest good beginning of those present.
+pub salvaged-is-read : Always 2 salvage-kinds.ps salvage-kinds.r salvage.Post
+    (λ κs args z w. let bytes = now (args .0) in let salvaged = w .1 .0 in
+    z .number ≡ 0 → Always 2 read-record-kinds.ps read-record-kinds.r read-record.Post
+    (λ κs′ args′ z′ w′. let again = now (args′ .0) in let buffer = now (args′ .1 .0) in
+    again ≡ take (length bytes - z .«left_over») salvaged → z .«new_count» ≤ length buffer → ReadsSalvaged bytes (z .«new_count») (w′ .1 .0) z′))
+salvaged-is-read κs args z w is answered κs′ args′ z′ w′ is′ read room =
+    let bytes = now (args .0) in
+    let nothing = answered-none (salvage-agrees _ _) (salvage-grounds κs args z w is) answered in
+    let count : z .«new_count» ≡ length (keptValues bytes) = rw (is .0) (new-count-is bytes (now (args .1 .0)) nothing) in
+    let written : now (args′ .0) ≡ salvagedFile bytes = read ∙ rw (is .0, is .1) (salvaged-left bytes (now (args .1 .0)) nothing) in
+    rw (count, is′ .0, is′ .1, written) (reads-salvaged bytes (now (args .1 .0)) nothing (now (args′ .1 .0)) (rw count at room))
+
+-- Old count, new count and bytes left over add up with the lengths.
+pub salvage-adds-up : Always 2 salvage-kinds.ps salvage-kinds.r salvage.Post (λ κs args z w. z .number ≡ 0 → AddsUp (now (args .0)) z)
+salvage-adds-up κs args z w is answered =
+    rw (is .0) (adds-up (now (args .0)) (now (args .1 .0)) (answered-none (salvage-agrees _ _) (salvage-grounds κs args z w is) answered))
+
+-- Met is 1 where a value present is outside its range, and 0 where none is.
+pub salvage-met : Always 2 salvage-kinds.ps salvage-kinds.r salvage.Post (λ κs args z w. z .number ≡ 0 → MetBy (now (args .0)) (z .met))
+salvage-met κs args z w is answered =
+    rw (is .0) (met-by (now (args .0)) (now (args .1 .0)) (answered-none (salvage-agrees _ _) (salvage-grounds κs args z w is) answered))
+
+-- A file that is read comes back byte for byte, with nothing left over.
+pub sound-file-comes-back : Always 2 read-record-kinds.ps read-record-kinds.r read-record.Post
+    (λ κs args z w. let bytes = now (args .0) in
+    z .number ≡ 0 → AreBytes bytes → Always 2 salvage-kinds.ps salvage-kinds.r salvage.Post
+    (λ κs′ args′ z′ w′. now (args′ .0) ≡ bytes → length bytes ≤ length (now (args′ .1 .0)) → ComesBack bytes (z .count) (w′ .1 .0) z′))
+unfolding readRecordAnswer
+sound-file-comes-back κs args z w is answered all κs′ args′ z′ w′ is′ same room =
+    let nothing = answered-none (record-reading-agrees _ _) (read-record-grounds κs args z w is) answered in
+    rw (is′ .0, is′ .1, same, is .0, nothing) (comes-back (now (args .0)) all _ nothing (now (args′ .1 .0)) room)
+
+-- Salvage of what was salvaged changes nothing.
+pub salvage-of-salvaged : Always 2 salvage-kinds.ps salvage-kinds.r salvage.Post
+    (λ κs args z w. let bytes = now (args .0) in let salvaged = w .1 .0 in
+    z .number ≡ 0 → Always 2 salvage-kinds.ps salvage-kinds.r salvage.Post
+    (λ κs′ args′ z′ w′. let again = now (args′ .0) in
+    again ≡ take (length bytes - z .«left_over») salvaged → length again ≤ length (now (args′ .1 .0)) → ComesBack again (z .«new_count») (w′ .1 .0) z′))
+salvage-of-salvaged κs args z w is answered κs′ args′ z′ w′ is′ read room =
+    let bytes = now (args .0) in
+    let nothing = answered-none (salvage-agrees _ _) (salvage-grounds κs args z w is) answered in
+    let count : z .«new_count» ≡ length (keptValues bytes) = rw (is .0) (new-count-is bytes (now (args .1 .0)) nothing) in
+    let written : now (args′ .0) ≡ salvagedFile bytes = read ∙ rw (is .0, is .1) (salvaged-left bytes (now (args .1 .0)) nothing) in
+    rw (count, is′ .0, is′ .1, written) (salvaged-comes-back bytes (now (args .1 .0)) nothing (now (args′ .1 .0)) (rw written at room))
 
 -- ---- the starred record 0 1 4 9 16 25 at m = 1: refusing everything, or giving 0/1 always, is shut out
 

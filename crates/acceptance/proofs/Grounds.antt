@@ -66,6 +66,10 @@ use Rattle.phr.proofs.read_record.Reads as read-record
 use Rattle.phr.proofs.read_record.Kinds as read-record-kinds
 use Rattle.phr.proofs.write_record.Reads as write-record
 use Rattle.phr.proofs.write_record.Kinds as write-record-kinds
+use Rattle.phr.proofs.read_header.Reads as read-header
+use Rattle.phr.proofs.read_header.Kinds as read-header-kinds
+use Rattle.mending.proofs.salvage.Reads as salvage
+use Rattle.mending.proofs.salvage.Kinds as salvage-kinds
 use Rattle.ploegelster.specs.Boundary.{toldDot, toldNoise}
 use Rattle.ploegelster.proofs.drawing.plg_noise_type.Reads as plg-noise-type
 use Rattle.ploegelster.proofs.drawing.plg_noise_type.Kinds as plg-noise-type-kinds
@@ -77,7 +81,7 @@ use Rattle.ploegelster.proofs.drawing.plg_time_dot.Reads as plg-time-dot
 use Rattle.ploegelster.proofs.drawing.plg_time_dot.Kinds as plg-time-dot-kinds
 use Rattle.ploegelster.proofs.drawing.plg_bars.Reads as plg-bars
 use Rattle.ploegelster.proofs.drawing.plg_bars.Kinds as plg-bars-kinds
-use Rattle.acceptance.specs.Grounds.{Grounded, OfRange, OfSize, OfRecord, OfFraction, OfDeviation, OfDot, OfPhases, OfPhasesFrom, OfDifferences, OfDrift, OfRemoval, OfReadings, OfRecordType, OfDrawn, OfType, OfBars, OfStart, OfSample, OfReport, OfFile, OfRecordFile, OfWriting, OfWritingFrom}
+use Rattle.acceptance.specs.Grounds.{Grounded, OfRange, OfSize, OfRecord, OfFraction, OfDeviation, OfDot, OfPhases, OfPhasesFrom, OfDifferences, OfDrift, OfRemoval, OfReadings, OfRecordType, OfDrawn, OfType, OfBars, OfStart, OfSample, OfReport, OfFile, OfRecordHeader, OfRecordFile, OfSalvage, OfWriting, OfWritingFrom}
 use Rattle.acceptance.proofs.Grounding.{refusal-grounded}
 use Rattle.acceptance.proofs.RecordGrounds.{size-agrees, range-agrees, record-agrees, multiple-agrees, sum-grounded}
 use Rattle.acceptance.proofs.FigureGrounds.{fraction-agrees, deviation-agrees, fraction-grounded, deviation-grounded, dot-grounded}
@@ -87,7 +91,8 @@ use Rattle.acceptance.proofs.RecordTypeGrounds.{record-type-agrees}
 use Rattle.acceptance.proofs.TypeGrounds.{drawn-grounded, type-agrees, type-grounded, bars-grounded, alpha-bars-grounded}
 use Rattle.acceptance.proofs.MeterGrounds.{start-grounded, sample-grounded, report-grounded}
 use Rattle.acceptance.proofs.FileGrounds.{reading-grounded, writing-agrees}
-use Rattle.acceptance.proofs.VersionGrounds.{record-reading-grounded, record-writing-agrees}
+use Rattle.acceptance.proofs.VersionGrounds.{header-grounded, record-reading-grounded, record-writing-agrees}
+use Rattle.acceptance.proofs.SalvageGrounds.{salvage-grounded}
 
 -- ---- record
 
@@ -240,6 +245,16 @@ pub write-record-grounds : Always 2 write-record-kinds.ps write-record-kinds.r w
     (λ κs args z w. let kind = args .0 in let start = args .1 .0 in let values = now (args .1 .1 .0) in let buffer = now (args .1 .1 .1 .0) in
     Grounded (OfWritingFrom kind start values (length buffer)) (z .number) (z .place))
 write-record-grounds κs args z w is = rw (is .0) (count-grounded (record-writing-agrees _ _ _ _) _)
+
+pub read-header-grounds : Always 1 read-header-kinds.ps read-header-kinds.r read-header.Post
+    (λ κs args z w. let bytes = now (args .0) in Grounded (OfRecordHeader bytes) (z .number) (z .place))
+read-header-grounds κs args z w is = rw is (header-grounded _ 0)
+
+-- ---- mending
+
+pub salvage-grounds : Always 2 salvage-kinds.ps salvage-kinds.r salvage.Post
+    (λ κs args z w. let bytes = now (args .0) in let buffer = now (args .1 .0) in Grounded (OfSalvage bytes (length buffer)) (z .number) (z .place))
+salvage-grounds κs args z w is = rw (is .0) (salvage-grounded _ _)
 
 -- ---- ploegelster: the functions whose contract is not the entry's own
 

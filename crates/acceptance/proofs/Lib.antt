@@ -4,6 +4,7 @@ pub mod TypeGrounds
 pub mod MeterGrounds
 pub mod FileGrounds
 pub mod VersionGrounds
+pub mod SalvageGrounds
 pub mod FigureGrounds
 pub mod BufferGrounds
 pub mod ReadingGrounds
@@ -12,6 +13,7 @@ pub mod Grounds
 pub mod Figures
 pub mod NoughtLaws
 pub mod PromiseLaws
+pub mod SalvageLaws
 pub mod AnyCalls
 pub mod LatestOnly
 pub mod Condition1

@@ -31,11 +31,14 @@ use Rattle.meter.specs.declared.Meter.{Meter}
 use Rattle.meter.specs.declared.MeterAnswer.{MeterAnswer}
 use Rattle.meter.proofs.TestLaws.{holds-together, slot-inside, ring-holds, let-in-by-number}
 use Rattle.meter.specs.declared.Report.{Report}
-use Rattle.phr.specs.Reading.{readRefusal, readAnswer, kindOf, valuesOf, countOf, versionOf, startOf, recordValues, readRecordRefusal, readRecordAnswer}
+use Rattle.phr.specs.Reading.{readRefusal, readAnswer, kindOf, valuesOf, countOf, versionOf, startOf, recordValues, countedHeaderRefusal, headerAnswer, readRecordRefusal, readRecordAnswer}
 use Rattle.phr.proofs.AnswerCases.{readBuffer, recordBuffer}
 use Rattle.phr.proofs.ReadCases.{values-of-length, record-values-length}
 use Rattle.phr.specs.declared.ReadAnswer.{ReadAnswer}
 use Rattle.phr.specs.declared.RecordAnswer.{RecordAnswer}
+use Rattle.mending.specs.Salvage.{salvagedFile, salvageRefusal, salvageAnswer}
+use Rattle.mending.proofs.KeptLaws.{salvaged-within}
+use Rattle.mending.proofs.SalvageCases.{unrefused-salvageable}
 use Rattle.plot.specs.Drawn.{plusZero, drawnRefusal, drawnAnswer}
 use Rattle.plot.specs.Dots.{dotNumber, dotValue, dotAnswer}
 use Rattle.ploegelster.specs.Boundary.{dotKind, toldDot}
@@ -109,6 +112,34 @@ module _ (bytes : List ℕ) (buffer : List ℤ) where
           getD (cond t (written (recordValues bytes) buffer) buffer) i e ≡ getD buffer i e
       by-number true past = written-past (recordValues bytes) buffer i e (omega (arith, record-values-length bytes))
       by-number false past = refl
+
+-- of its header alone
+pub header-noughts : (bytes : List ℕ) → let z = headerAnswer bytes in Refused (z .number) → (z .version ≡ 0) × (z .kind ≡ 0) × (z .start ≡ pos 0) × (z .count ≡ 0)
+unfolding headerAnswer
+header-noughts bytes some = rw (by-refusal (countedHeaderRefusal bytes) (λ nothing. rw nothing) some) (refl, refl, refl, refl)
+
+-- ---- a file that is salvaged
+
+module _ (bytes buffer : List ℕ) where
+  abbrev salvageBuffer : List ℕ
+  salvageBuffer = bufferLeft (salvageRefusal bytes (length buffer)) (salvagedFile bytes) buffer
+
+  pub salvage-noughts : let z = salvageAnswer bytes (length buffer) in
+      Refused (z .number) → (z .«old_count» ≡ 0) × (z .«new_count» ≡ 0) × (z .«left_over» ≡ 0) × (z .met ≡ 0) × (salvageBuffer ≡ buffer)
+  unfolding salvageAnswer bufferLeft
+  salvage-noughts some = rw (by-refusal (salvageRefusal bytes (length buffer)) (λ nothing. rw nothing) some) (refl, refl, refl, refl, refl)
+
+  -- the new file's length is the input's less what is left over
+  pub past-the-salvaged : (i e : ℕ) → length bytes - salvageAnswer bytes (length buffer) .«left_over» ≤ i → getD salvageBuffer i e ≡ getD buffer i e
+  unfolding salvageAnswer bufferLeft
+  past-the-salvaged i e past = by-number (eqb (salvageRefusal bytes (length buffer) .number) 0) refl
+    where
+      by-number : (t : Bool) → eqb (salvageRefusal bytes (length buffer) .number) 0 ≡ t → getD salvageBuffer i e ≡ getD buffer i e
+      by-number true t =
+          let known = unrefused-salvageable bytes (length buffer) (eqb-true (salvageRefusal bytes (length buffer) .number) 0 t) in
+          let behind : length bytes - (length bytes - length (salvagedFile bytes)) ≤ i = rw t at past in
+          rw t (written-past (salvagedFile bytes) buffer i e (omega (arith, salvaged-within bytes (known .header .present))))
+      by-number false t = rw t
 
 -- ---- sums and answers of two parts
 

@@ -66,7 +66,7 @@ use Rattle.phr.specs.declared.RecordAnswer.{RecordAnswer}
 use Rattle.phr.proofs.WriteCases.{Writable, writable-none, unrefused-writable}
 use Rattle.phr.proofs.RoundTrip.{accepted-exactly, buffer-has-file, file-is-read, file-answer, values-come-back}
 use Rattle.phr.proofs.RecordRoundTrip.{accepted-either, buffer-has-file-from, file-from-is-read, file-from-answer, values-come-back-from, as-first-version, first-values, first-version}
-use Rattle.phr.proofs.ReadCases.{first-start}
+use Rattle.phr.proofs.ReadCases.{first-start, unrefused-record}
 use Rattle.plot.specs.Drawn.{GreatestDouble, drawnAnswer}
 use Rattle.plot.specs.Dots.{dotNumber, dotValue, dotAnswer}
 use Rattle.plot.specs.declared.dots.Dot.{Dot}
@@ -493,7 +493,7 @@ module _ (bytes : List ℕ) (first : getD bytes 3 0 ≡ 2 → ⊥) where
 
   pub version-is-1 : (room : ℕ) → readRecordRefusal bytes room ≡ none → readRecordAnswer bytes room .version ≡ 1
   unfolding versionOf readRecordAnswer
-  version-is-1 room nothing = rw nothing (first-version bytes first room nothing)
+  version-is-1 room nothing = rw nothing (first-version bytes first (unrefused-record bytes room (ap (λ (r : Refusal). r .number) nothing) .header))
 
 -- ---- a file of one value
 

@@ -1,4 +1,4 @@
--- The refusals of reading record files of either version, and of writing version 2, agree with their tables of grounds.
+-- The refusals of reading record files of either version and their headers, and of writing version 2, agree with their tables of grounds.
 use mathlib.Core.Path.{_≡_, refl, ap, _∙_}
 use mathlib.Core.Bool.{Bool, true, false, not, _||_}
 use mathlib.Core.List.{List}
@@ -15,17 +15,17 @@ use Rattle.record.specs.declared.Refusal.{Refusal}
 use Rattle.record.proofs.RangeLaws.{sample-bounded, bounded-sample}
 use Rattle.phr.specs.Bytes.{valueAt}
 use Rattle.phr.specs.File.{mostValues, startFits, valuesRefusal}
-use Rattle.phr.specs.Reading.{soundUpTo, kindOf, countOf, countRefusal, eitherTests, headLength, startOf, recordValues, headerRefusal, readRecordRefusal, readRecordAnswer}
+use Rattle.phr.specs.Reading.{soundUpTo, kindOf, countOf, countRefusal, eitherTests, headLength, startOf, recordValues, headerRefusal, countedHeaderRefusal, readRecordRefusal, readRecordAnswer, headerAnswer}
 use Rattle.phr.specs.Writing.{roomRefusal, writeRecordRefusal}
 use Rattle.phr.specs.declared.RecordAnswer.{RecordAnswer}
-use Rattle.phr.proofs.ReadCases.{head-length-bounded, record-values-length, too-many-values, file-too-short, file-too-long, no-room-for-values, room-for-values, unrefused-counted, first-eight-wrong, header-short, start-unfit, start-fit, unrefused-header}
+use Rattle.phr.proofs.ReadCases.{head-length-bounded, record-values-length, too-many-values, file-too-short, file-too-long, no-room-for-values, room-for-values, unrefused-counted, first-eight-wrong, header-short, start-unfit, start-fit, unrefused-header, too-many-said}
 use Rattle.phr.proofs.StartCases.{fit-passes, passes-fit, unfit-fails, fails-unfit}
 use Rattle.phr.proofs.WriteCases.{too-many-to-write, no-room-for-file, room-for-file, unrefused-room, no-such-kind-from, start-not-nought, start-allowed}
 use Rattle.acceptance.specs.Grounds
 use Rattle.acceptance.specs.Grounds.{NoRow, Grounded, None, TooMany, EitherVersion, WrongEither, OfRecordHeader, OfRecordFile, OfWritingFrom}
-use Rattle.acceptance.proofs.Grounding.{Decided, Stands, Agrees, decide, decide-last, decide-after, stands-first, stands-later, grounded-answer}
+use Rattle.acceptance.proofs.Grounding.{Decided, Stands, Agrees, decide, decide-last, decide-after, decided-by, stands-first, stands-later, grounded-answer}
 use Rattle.acceptance.proofs.RecordGrounds.{outside-fails, failing-outside}
-use Rattle.acceptance.proofs.FileGrounds.{too-many-above, few-enough, values-stand, values-decided, none-wrong, kind-known, eight-sound, first-wrong, too-few-bytes, unsound-row, few-values, count-decided, record-entry, room-decided}
+use Rattle.acceptance.proofs.FileGrounds.{too-many-above, above-too-many, few-enough, values-stand, values-decided, none-wrong, kind-known, eight-sound, first-wrong, too-few-bytes, unsound-row, few-values, count-decided, record-entry, room-decided}
 
 -- ---- the versions that are known
 
@@ -61,28 +61,28 @@ module _ (bytes : List ℕ) (room : ℕ) where
     unfolding eitherTests
     known-kind = kind-known either-known EitherVersion knows-either either-there bytes sound
 
-    none-bad : None (length bytes) (WrongEither bytes room)
+    none-bad : None (length bytes) (WrongEither bytes)
     unfolding eitherTests
     none-bad = none-wrong either-known EitherVersion knows-either either-there bytes sound
 
-    sound-rowless : head ≤ length bytes → (kind ≡ 0 → start ≡ pos 0) → (TooMany kind (countOf bytes) → ⊥) → NoRow (OfRecordHeader bytes room)
+    sound-rowless : head ≤ length bytes → (kind ≡ 0 → start ≡ pos 0) → (TooMany kind (countOf bytes) → ⊥) → NoRow (OfRecordHeader bytes)
     sound-rowless present fit few n p (Grounds.wrong first) = none-bad p (first .inside) (first .bad)
     sound-rowless present fit few n p (Grounds.short right brief) = omega arith
     sound-rowless present fit few n p (Grounds.started right there phase some) = some (fit phase)
     sound-rowless present fit few n p (Grounds.many right there from many) = few many
 
-  unsound : soundUpTo eitherTests bytes < 8 → OfRecordHeader bytes room 9 (soundUpTo eitherTests bytes)
+  unsound : soundUpTo eitherTests bytes < 8 → OfRecordHeader bytes 9 (soundUpTo eitherTests bytes)
   unfolding eitherTests
   unsound =
-      unsound-row either-known EitherVersion knows-either either-there bytes (OfRecordHeader bytes room) (λ i. Grounds.wrong)
+      unsound-row either-known EitherVersion knows-either either-there bytes (OfRecordHeader bytes) (λ i. Grounds.wrong)
       (λ right brief. Grounds.short right (omega (arith, head-length-bounded bytes)))
 
-  sound-there : None (length bytes) (WrongEither bytes room) → head ≤ length bytes → 8 ≤ soundUpTo eitherTests bytes
+  sound-there : None (length bytes) (WrongEither bytes) → head ≤ length bytes → 8 ≤ soundUpTo eitherTests bytes
   unfolding eitherTests
   sound-there right present = eight-sound either-known EitherVersion knows-either either-there bytes right (omega (arith, head-length-bounded bytes))
 
   -- what is known where no row of the header holds
-  module _ (rowless : NoRow (OfRecordHeader bytes room)) where
+  module _ (rowless : NoRow (OfRecordHeader bytes)) where
     rowless-sound : 8 ≤ soundUpTo eitherTests bytes
     rowless-sound = let never : soundUpTo eitherTests bytes < 8 → ⊥ = λ h. rowless 9 _ (unsound h) in omega arith
 
@@ -114,6 +114,62 @@ module _ (bytes : List ℕ) (room : ℕ) where
   abbrev count-left : Refusal
   count-left = countRefusal head bytes room then start-left
 
+  -- the header's rows stand in an order that begins with the header and refuses 2 next
+  module _ (whole : Refusal) (nine : (p : ℕ) → Stands 9 p (headerRefusal bytes) → Stands 9 p whole)
+      (two : headerRefusal bytes ≡ none → mostValues kind < countOf bytes → Stands 2 0 whole) where
+    first-eight-stands : {i : ℕ} → (soundUpTo eitherTests bytes < 8) × (soundUpTo eitherTests bytes ≡ i) → Stands 9 i whole
+    first-eight-stands {i} there = nine i (λ e. omega arith, first-eight-wrong bytes (there .0) ∙ ap (refused 9) (there .1))
+
+    header-stands : {n p : ℕ} → OfRecordHeader bytes n p → Stands n p whole
+    unfolding eitherTests
+    header-stands (Grounds.wrong first) = first-eight-stands (first-wrong either-known EitherVersion knows-either either-there bytes first)
+    header-stands (Grounds.short right brief) = by-length (ltb (length bytes) 8) refl
+      where
+        by-length : (under : Bool) → ltb (length bytes) 8 ≡ under → Stands 9 (length bytes) whole
+        by-length true t =
+            first-eight-stands (too-few-bytes either-known EitherVersion knows-either either-there bytes right (ltb-true (length bytes) 8 t))
+        by-length false t =
+            let sound = eight-sound either-known EitherVersion knows-either either-there bytes right (ltb-false (length bytes) 8 t) in
+            nine (length bytes) (λ e. omega arith, header-short bytes sound brief)
+    header-stands (Grounds.started right there phase some) =
+        nine 8 (λ e. omega arith, start-unfit bytes (sound-there right there) there (unfit-fails kind start phase some))
+    header-stands (Grounds.many right there fit many) =
+        two (start-fit bytes (sound-there right there) there (fit-passes kind start fit)) (too-many-above kind (countOf bytes) many .1)
+
+  header-decided : Decided (OfRecordHeader bytes) (headerRefusal bytes)
+  unfolding headerRefusal
+  header-decided =
+      decide _ 9 _ (omega arith) (λ t. unsound (ltb-true _ 8 t)) _
+      (λ f. let right = none-bad (ltb-false (soundUpTo eitherTests bytes) 8 f) in
+      decide _ 9 _ (omega arith) (λ t. Grounds.short right (ltb-true (length bytes) head t)) _
+      (λ g. decide-last _ 9 8 (omega arith)
+      (λ t. let unfit = fails-unfit kind start (not-true _ t) in
+      Grounds.started right (ltb-false (length bytes) head g) (unfit .0) (unfit .1))))
+
+  -- the header with its count
+  counted-stands : {n p : ℕ} → OfRecordHeader bytes n p → Stands n p (countedHeaderRefusal bytes)
+  unfolding countedHeaderRefusal
+  counted-stands row =
+      header-stands (countedHeaderRefusal bytes)
+      (λ p. stands-first (headerRefusal bytes) _)
+      (λ clear many. (λ e. omega arith, too-many-said bytes (ap (λ (r : Refusal). r .number) clear) many)) row
+
+  counted-decided : Decided (OfRecordHeader bytes) (countedHeaderRefusal bytes)
+  unfolding countedHeaderRefusal
+  counted-decided =
+      decide-after _ _ header-decided
+      (λ clear. let header = unrefused-header bytes (ap (λ (r : Refusal). r .number) clear) in
+      decide-last _ 2 0 (omega arith)
+      (λ t. Grounds.many (none-bad (header .sound)) (header .present) (passes-fit kind start (header .start-fits))
+      (above-too-many kind (countOf bytes) (known-kind (header .sound)) (ltb-true _ _ t))))
+
+  pub header-agrees : Agrees (OfRecordHeader bytes) (countedHeaderRefusal bytes)
+  header-agrees = record { stands = counted-stands; decided = counted-decided }
+
+  pub header-grounded : Grounded (OfRecordHeader bytes) (headerAnswer bytes .number) (headerAnswer bytes .place)
+  unfolding headerAnswer
+  header-grounded = grounded-answer header-agrees (λ (a : RecordAnswer). a .number) (λ a. a .place) _ _ (refl, refl) (refl, refl)
+
   in-header : {n p : ℕ} → Stands n p (headerRefusal bytes) → Stands n p (readRecordRefusal bytes room)
   unfolding readRecordRefusal
   in-header stands = stands-first (headerRefusal bytes) count-left stands
@@ -121,26 +177,6 @@ module _ (bytes : List ℕ) (room : ℕ) where
   after-header : headerRefusal bytes ≡ none → {n p : ℕ} → Stands n p count-left → Stands n p (readRecordRefusal bytes room)
   unfolding readRecordRefusal
   after-header clear stands = stands-later (headerRefusal bytes) count-left clear stands
-
-  first-eight-stands : {i : ℕ} → (soundUpTo eitherTests bytes < 8) × (soundUpTo eitherTests bytes ≡ i) → Stands 9 i (readRecordRefusal bytes room)
-  first-eight-stands there = in-header (λ e. omega arith, first-eight-wrong bytes (there .0) ∙ ap (refused 9) (there .1))
-
-  header-stands : {n p : ℕ} → OfRecordHeader bytes room n p → Stands n p (readRecordRefusal bytes room)
-  unfolding eitherTests
-  header-stands (Grounds.wrong first) = first-eight-stands (first-wrong either-known EitherVersion knows-either either-there bytes first)
-  header-stands (Grounds.short right brief) = by-length (ltb (length bytes) 8) refl
-    where
-      by-length : (under : Bool) → ltb (length bytes) 8 ≡ under → Stands 9 (length bytes) (readRecordRefusal bytes room)
-      by-length true t =
-          first-eight-stands (too-few-bytes either-known EitherVersion knows-either either-there bytes right (ltb-true (length bytes) 8 t))
-      by-length false t =
-          let sound = eight-sound either-known EitherVersion knows-either either-there bytes right (ltb-false (length bytes) 8 t) in
-          in-header (λ e. omega arith, header-short bytes sound brief)
-  header-stands (Grounds.started right there phase some) =
-      in-header (λ e. omega arith, start-unfit bytes (sound-there right there) there (unfit-fails kind start phase some))
-  header-stands (Grounds.many right there fit many) =
-      after-header (start-fit bytes (sound-there right there) there (fit-passes kind start fit))
-      (stands-first _ _ (λ e. omega arith, too-many-values head bytes room (too-many-above _ _ many .1)))
 
   -- the values, each by its entry
   abbrev value : ℕ → ℤ
@@ -151,7 +187,9 @@ module _ (bytes : List ℕ) (room : ℕ) where
   entry-is known = record-entry head bytes room known
 
   reading-stands : {n p : ℕ} → OfRecordFile bytes room n p → Stands n p (readRecordRefusal bytes room)
-  reading-stands (Grounds.header row) = header-stands row
+  reading-stands (Grounds.header row) =
+      header-stands (readRecordRefusal bytes room) (λ p. in-header)
+      (λ clear many. after-header clear (stands-first _ _ (λ e. omega arith, too-many-values head bytes room many))) row
   reading-stands (Grounds.too-short rowless h) =
       after-header (rowless-header rowless) (stands-first _ _ (λ e. omega arith, file-too-short head bytes room (rowless-few rowless) h))
   reading-stands (Grounds.too-long rowless h) =
@@ -167,20 +205,10 @@ module _ (bytes : List ℕ) (room : ℕ) where
       (stands-later _ _ (room-for-values head bytes room (rowless-few rowless) whole enough)
       (rw (bounded-sample start near) (values-stand kind (recordValues bytes) (countOf bytes) value known (record-values-length bytes) (entry-is known) first)))
 
-  header-decided : Decided (OfRecordFile bytes room) (headerRefusal bytes)
-  unfolding headerRefusal
-  header-decided =
-      decide _ 9 _ (omega arith) (λ t. Grounds.header (unsound (ltb-true _ 8 t))) _
-      (λ f. let right = none-bad (ltb-false (soundUpTo eitherTests bytes) 8 f) in
-      decide _ 9 _ (omega arith) (λ t. Grounds.header (Grounds.short right (ltb-true (length bytes) head t))) _
-      (λ g. decide-last _ 9 8 (omega arith)
-      (λ t. let unfit = fails-unfit kind start (not-true _ t) in
-      Grounds.header (Grounds.started right (ltb-false (length bytes) head g) (unfit .0) (unfit .1)))))
-
   reading-decided : Decided (OfRecordFile bytes room) (readRecordRefusal bytes room)
   unfolding readRecordRefusal
   reading-decided =
-      decide-after _ _ header-decided
+      decide-after _ _ (decided-by (λ n p. Grounds.header) header-decided)
       (λ clear. let header = unrefused-header bytes (ap (λ (r : Refusal). r .number) clear) in
       let known = known-kind (header .sound) in
       let right = none-bad (header .sound) in

@@ -19,6 +19,7 @@ use Rattle.drift.specs.Drift.{withoutDrift}
 use Rattle.meter.specs.declared.Meter.{Meter}
 use Rattle.phr.specs.Bytes.{valueAt}
 use Rattle.phr.specs.Reading.{kindOf, countOf, headLength, startOf}
+use Rattle.mending.specs.Salvage.{salvagedFile}
 
 -- ---- what a table says of an answer
 
@@ -255,10 +256,11 @@ module _ (bytes : List ℕ) (room : ℕ) where
     no-room : NoRow OfHeader → length bytes ≡ 8 + 8 * countOf bytes → room < countOf bytes → OfFile 6 0
     range : {i : ℕ} → NoRow OfHeader → length bytes ≡ 8 + 8 * countOf bytes → countOf bytes ≤ room → First (countOf bytes) (λ k. FarValue (kindOf bytes) (valueAt bytes (8 + 8 * k))) i → OfFile 3 i
 
+module _ (bytes : List ℕ) where
   abbrev pub WrongEither : ℕ → Type 0
   WrongEither k = WrongByte EitherVersion bytes k
 
-  -- read_record, up to the count: among the first eight bytes that are there, then the length if that is under the header's, 8 in version 1 and 16 in
+  -- read_header, and read_record up to the count: among the first eight bytes that are there, then the length if that is under the header's, 8 in version 1 and 16 in
   -- version 2, then the start, which is 0 where the kind is
   pub data OfRecordHeader : ℕ → ℕ → Type 0 where
     wrong : {i : ℕ} → First (length bytes) WrongEither i → OfRecordHeader 9 i
@@ -266,15 +268,22 @@ module _ (bytes : List ℕ) (room : ℕ) where
     started : None (length bytes) WrongEither → headLength bytes ≤ length bytes → kindOf bytes ≡ 0 → (startOf bytes ≡ pos 0 → ⊥) → OfRecordHeader 9 8
     many : None (length bytes) WrongEither → headLength bytes ≤ length bytes → (kindOf bytes ≡ 0 → startOf bytes ≡ pos 0) → TooMany (kindOf bytes) (countOf bytes) → OfRecordHeader 2 0
 
+module _ (bytes : List ℕ) (room : ℕ) where
   -- read_record: 9 at the shorter of the true and the right length; 3 for the start before 3 for a value
   pub data OfRecordFile : ℕ → ℕ → Type 0 where
-    header : {n p : ℕ} → OfRecordHeader n p → OfRecordFile n p
-    too-short : NoRow OfRecordHeader → length bytes < headLength bytes + 8 * countOf bytes → OfRecordFile 9 (length bytes)
-    too-long : NoRow OfRecordHeader → headLength bytes + 8 * countOf bytes < length bytes → OfRecordFile 9 (headLength bytes + 8 * countOf bytes)
-    no-room : NoRow OfRecordHeader → length bytes ≡ headLength bytes + 8 * countOf bytes → room < countOf bytes → OfRecordFile 6 0
-    far-start : NoRow OfRecordHeader → length bytes ≡ headLength bytes + 8 * countOf bytes → countOf bytes ≤ room → 2 ^ 40 < natAbs (startOf bytes) → OfRecordFile 3 0
-    range : {i : ℕ} → NoRow OfRecordHeader → length bytes ≡ headLength bytes + 8 * countOf bytes → countOf bytes ≤ room → natAbs (startOf bytes) ≤ 2 ^ 40 →
+    header : {n p : ℕ} → OfRecordHeader bytes n p → OfRecordFile n p
+    too-short : NoRow (OfRecordHeader bytes) → length bytes < headLength bytes + 8 * countOf bytes → OfRecordFile 9 (length bytes)
+    too-long : NoRow (OfRecordHeader bytes) → headLength bytes + 8 * countOf bytes < length bytes → OfRecordFile 9 (headLength bytes + 8 * countOf bytes)
+    no-room : NoRow (OfRecordHeader bytes) → length bytes ≡ headLength bytes + 8 * countOf bytes → room < countOf bytes → OfRecordFile 6 0
+    far-start : NoRow (OfRecordHeader bytes) → length bytes ≡ headLength bytes + 8 * countOf bytes → countOf bytes ≤ room → 2 ^ 40 < natAbs (startOf bytes) → OfRecordFile 3 0
+    range : {i : ℕ} → NoRow (OfRecordHeader bytes) → length bytes ≡ headLength bytes + 8 * countOf bytes → countOf bytes ≤ room → natAbs (startOf bytes) ≤ 2 ^ 40 →
         First (countOf bytes) (λ k. FarValue (kindOf bytes) (valueAt bytes (headLength bytes + 8 * k))) i → OfRecordFile 3 i
+
+  -- salvage: the header and the written count, as read_header refuses them; then the new file's room, and the start
+  pub data OfSalvage : ℕ → ℕ → Type 0 where
+    header : {n p : ℕ} → OfRecordHeader bytes n p → OfSalvage n p
+    no-room : NoRow (OfRecordHeader bytes) → room < length (salvagedFile bytes) → OfSalvage 6 0
+    far-start : NoRow (OfRecordHeader bytes) → length (salvagedFile bytes) ≤ room → 2 ^ 40 < natAbs (startOf bytes) → OfSalvage 3 0
 
 -- write_file
 pub data OfWriting (kind : ℕ) (values : List ℤ) (room : ℕ) : ℕ → ℕ → Type 0 where

@@ -1,6 +1,7 @@
 -- What conditions 2 and 3 promise of each figure, in the rules' words: the published figure, and nothing about how it is worked. Where a call is
 -- answered at all is told by Grounds.antt.
 use mathlib.Core.Path.{_≡_}
+use mathlib.Core.Bool.{true, false}
 use mathlib.Core.List.{List, [], _∷_}
 use Prim.Native.Nat.{ℕ, suc, _+_, _-_, _*_, _/_, _^_, _≤_, _<_, _∣_}
 use lib.Dec.{leb}
@@ -22,8 +23,12 @@ use Rattle.plot.specs.Dots.{dotNumber, dotValue}
 use Rattle.plot.specs.declared.dots.Dot.{Dot}
 use Rattle.plot.specs.declared.dots.Dot.the-variants.{Drawn, Nought, TooFew}
 use Rattle.noise.specs.declared.bars.BarsAnswer.{BarsAnswer}
+use Rattle.phr.specs.File.{valueInRange}
+use Rattle.phr.specs.Reading.{kindOf, countOf, versionOf, headLength, startOf}
 use Rattle.phr.specs.declared.ReadAnswer.{ReadAnswer}
 use Rattle.phr.specs.declared.RecordAnswer.{RecordAnswer}
+use Rattle.mending.specs.Salvage.{presentValues, LongestGood}
+use Rattle.mending.specs.declared.SalvageAnswer.{SalvageAnswer}
 use Rattle.acceptance.specs.Noughts.{DotNought}
 
 -- ---- sums
@@ -154,3 +159,35 @@ pub record ReadAlike (z : ReadAnswer) (left : List ℤ) (z′ : RecordAnswer) (l
   pub count : z′ .count ≡ z .count
   pub start : z′ .start ≡ pos 0
   pub buffer : left′ ≡ left
+
+-- ---- salvage
+
+-- what was salvaged of a damaged file is read with the version, the kind and the start that the damaged one's header says, and its values, so many as
+-- were kept, are the longest good beginning of those present
+pub record ReadsSalvaged (bytes : List ℕ) (kept : ℕ) (left : List ℤ) (z : RecordAnswer) : Type 0 where
+  pub number : z .number ≡ 0
+  pub version : z .version ≡ versionOf bytes
+  pub kind : z .kind ≡ kindOf bytes
+  pub start : z .start ≡ startOf bytes
+  pub count : z .count ≡ kept
+  pub longest : LongestGood (kindOf bytes) (presentValues bytes) (take kept left)
+
+-- the old count is the header's, no more are kept, and the bytes left over are those that are not of the new file
+pub record AddsUp (bytes : List ℕ) (z : SalvageAnswer) : Type 0 where
+  pub old : z .«old_count» ≡ countOf bytes
+  pub fewer : z .«new_count» ≤ z .«old_count»
+  pub whole : length bytes ≡ headLength bytes + 8 * z .«new_count» + z .«left_over»
+
+-- a value outside its range was met, or every value present is in it
+pub data MetBy (bytes : List ℕ) : ℕ → Type 0 where
+  met : (i : ℕ) → i < length (presentValues bytes) → valueInRange (kindOf bytes) (at (presentValues bytes) i) ≡ false → MetBy bytes 1
+  not-met : ((i : ℕ) → i < length (presentValues bytes) → valueInRange (kindOf bytes) (at (presentValues bytes) i) ≡ true) → MetBy bytes 0
+
+-- a file of so many values comes back byte for byte, with nothing left over and no value outside its range met
+pub record ComesBack (bytes : List ℕ) (count : ℕ) (left : List ℕ) (z : SalvageAnswer) : Type 0 where
+  pub number : z .number ≡ 0
+  pub old : z .«old_count» ≡ count
+  pub new : z .«new_count» ≡ count
+  pub left-over : z .«left_over» ≡ 0
+  pub met : z .met ≡ 0
+  pub same : take (length bytes) left ≡ bytes

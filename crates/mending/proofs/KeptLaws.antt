@@ -7,7 +7,7 @@ use native.Mathlib.Omega.{arith}
 use borrow.Author.Tests.{eq-eqb, ne-eqb, eqb-true, eqb-false}
 use lib.Dec.{eqb}
 use lib.IntN.{ℤ, pos}
-use lib.ListN.{length, take, drop, length-drop}
+use lib.ListN.{length, take, drop, length-take, length-drop}
 use lib.Seq.{length-take-le, getD-take}
 use Rattle.laws.specs.Lists.{at, firstFailing}
 use Rattle.laws.proofs.ListLaws.{first-failing-within, passes-before, fails-there}
@@ -73,6 +73,10 @@ module _ (bytes : List ℕ) where
           let first = eqb-false (versionOf bytes) 2 t in
           ap length (salvaged-first first) ∙ file-length (kindOf bytes) (keptValues bytes) ∙ rw (first-head bytes first, kept-length)
 
+  -- it is no longer than the input, whose header is there
+  pub salvaged-within : headLength bytes ≤ length bytes → length (salvagedFile bytes) ≤ length bytes
+  salvaged-within present = omega (arith, salvaged-length, first-bad-within)
+
   -- ---- the longest good beginning
 
   pub kept-longest : LongestGood (kindOf bytes) (presentValues bytes) (keptValues bytes)
@@ -80,10 +84,24 @@ module _ (bytes : List ℕ) where
   kept-longest = record {
     beginning = ap (λ (n : ℕ). take n (presentValues bytes)) (sym kept-length);
     good = λ i h.
-    let before : i < firstBad bytes = omega (arith, kept-length) in
-    ap (valueInRange (kindOf bytes)) (getD-take (firstBad bytes) (presentValues bytes) i (pos 0) before) ∙ passes-before (valueInRange (kindOf bytes)) (pos 0) (presentValues bytes) i before;
+        let before : i < firstBad bytes = omega (arith, kept-length) in
+        ap (valueInRange (kindOf bytes)) (getD-take (firstBad bytes) (presentValues bytes) i (pos 0) before) ∙ passes-before (valueInRange (kindOf bytes)) (pos 0) (presentValues bytes) i before;
     longest = λ n within all.
-    let not-before : firstBad bytes < n → ⊥ =
-    λ h. true≢false (sym (all (firstBad bytes) h) ∙ fails-there (valueInRange (kindOf bytes)) (pos 0) (presentValues bytes) (omega arith)) in
-    omega (arith, kept-length);
+        let not-before : firstBad bytes < n → ⊥ =
+        λ h. true≢false (sym (all (firstBad bytes) h) ∙ fails-there (valueInRange (kindOf bytes)) (pos 0) (presentValues bytes) (omega arith)) in
+        omega (arith, kept-length);
   }
+
+-- any two are equal
+module _ (kind : ℕ) (values : List ℤ) where
+  not-longer : (a b : List ℤ) → LongestGood kind values a → LongestGood kind values b → length a ≤ length b
+  not-longer a b x y =
+      let within : length a ≤ length values = omega (arith, ap length (x .beginning) ∙ length-take (length a) values) in
+      y .longest (length a) within (λ i h.
+      let entry : at a i ≡ at values i = ap (λ (zs : List ℤ). at zs i) (x .beginning) ∙ getD-take (length a) values i (pos 0) h in
+      sym (ap (valueInRange kind) entry) ∙ x .good i h)
+
+  pub one-longest : (a b : List ℤ) → LongestGood kind values a → LongestGood kind values b → a ≡ b
+  one-longest a b x y =
+      let same : length a ≡ length b = omega (arith, not-longer a b x y, not-longer b a y x) in
+      x .beginning ∙ ap (λ (n : ℕ). take n values) same ∙ sym (y .beginning)

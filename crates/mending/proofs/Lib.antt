@@ -1,3 +1,5 @@
 pub mod KeptLaws
 pub mod SalvageCases
 pub mod StoredLaws
+pub mod Salvaged
+pub mod Unique

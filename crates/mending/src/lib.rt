@@ -32,7 +32,8 @@ pub fn salvage(bytes: &[u8], buffer: &mut [u8]) -> SalvageAnswer
         return refused(number, header.place);
     }
     let head = head_length(header.version);
-    let present = present_values(bytes.len(), head, header.count as usize);
+    let whole = whole_values(bytes.len(), head);
+    let present = lesser(header.count as usize, whole);
     let kept = phr::good_values(&bytes[head..head + 8 * present], header.kind);
     let length = head + 8 * kept;
     if buffer.len() < length {
@@ -62,16 +63,22 @@ fn head_length(version: u64) -> usize
     8
 }
 
-// How many values of a count are whole in so many bytes with such a header.
-fn present_values(length: usize, head: usize, count: usize) -> usize
+// How many whole values follow the header in so many bytes.
+fn whole_values(length: usize, head: usize) -> usize
     requires { ⌜ head ≤ length ⌝ }
-    ensures { λ r. ⌜ r ≡ min count ((length - head) / 8) ⌝ }
+    ensures { λ r. ⌜ r ≡ (length - head) / 8 ⌝ }
 {
-    let whole = (length - head) / 8;
-    if whole < count {
-        return whole;
+    (length - head) / 8
+}
+
+// The lesser of two counts.
+fn lesser(a: usize, b: usize) -> usize
+    ensures { λ r. ⌜ r ≡ min a b ⌝ }
+{
+    if b < a {
+        return b;
     }
-    count
+    a
 }
 
 // 1 if fewer values are kept than are present.

@@ -8,7 +8,7 @@ use Prim.Native.Nat.{ℕ, _+_, _*_, _≤_, _<_}
 use native.Mathlib.Omega.{arith}
 use borrow.Author.Tests.{ltb-true, ltb-false, ne-eqb, eqb-true, eqb-false}
 use lib.Dec.{ltb, eqb}
-use lib.IntN.{ℤ}
+use lib.IntN.{ℤ, pos}
 use lib.ListN.{length, getD, take, take-append-drop}
 use lib.Seq.{take-add, take-at}
 use Rattle.laws.specs.Lists.{at}
@@ -24,7 +24,7 @@ use Rattle.phr.specs.Writing.{writeRecordRefusal}
 use Rattle.phr.proofs.ByteLaws.{bytes-joined}
 use Rattle.phr.proofs.RangeCases.{in-range-fits}
 use Rattle.phr.proofs.ReadCases.{SoundHeader, ReadableRecord, first-head, first-start, second-head, second-start, readable-record-none, unrefused-record, record-values-length, sound-within, most-values-bounded, header-wrong, first-eight-wrong, start-fit}
-use Rattle.phr.proofs.RoundTrip.{first-eight-bytes, kind-there, count-there, version-there, first-eight-sound, passed, kind-passed, eight-there, values-there, accepted-exactly}
+use Rattle.phr.proofs.RoundTrip.{first-eight-bytes, kind-there, count-there, version-there, first-eight-sound, passed, kind-passed, eight-there, values-there, kind-comes-back, count-comes-back, values-come-back, file-is-read, accepted-exactly}
 use Rattle.phr.proofs.StartCases.{fit-passes, passes-fit}
 use Rattle.phr.proofs.WriteCases.{unrefused-from}
 use Rattle.phr.proofs.ValueLaws.{valueBytes, value-back, value-bytes-back, value-bytes-are-bytes, values-back, values-bytes-length, values-bytes-are-bytes}
@@ -107,7 +107,7 @@ unfolding fileFrom headerFrom firstEight lowFirst
 file-from-length kind start values = omega (arith, values-bytes-length values)
 
 -- a start that passes its two tests is one that a file may hold
-fits-proper : (kind : ℕ) (start : ℤ) → startFits kind start ≡ true → inRange start ≡ true → ProperStart kind start
+pub fits-proper : (kind : ℕ) (start : ℤ) → startFits kind start ≡ true → inRange start ≡ true → ProperStart kind start
 fits-proper kind start fits near = record { in-range = sample-bounded start near; of-phase = passes-fit kind start fits }
 
 module _ (kind : ℕ) (start : ℤ) (values : List ℤ) (proper : Proper kind values) (proper-start : ProperStart kind start) where
@@ -212,7 +212,7 @@ module _ (bytes : List ℕ) (all : AreBytes bytes) (room : ℕ) (second : versio
   unfolding recordValues
   record-values-there = rw (second-head bytes second)
 
-  accepted-is-file-from : bytes ≡ fileFrom (kindOf bytes) (startOf bytes) (recordValues bytes)
+  pub accepted-is-file-from : bytes ≡ fileFrom (kindOf bytes) (startOf bytes) (recordValues bytes)
   unfolding fileFrom
   accepted-is-file-from =
       sym (take-append-drop 16 bytes)
@@ -237,9 +237,12 @@ module _ (bytes : List ℕ) (all : AreBytes bytes) (room : ℕ) (second : versio
 
 -- ---- so the reader of either version accepts the files of both, and nothing else
 
-file-is-first : (kind : ℕ) (values : List ℤ) → versionOf (fileOf kind values) ≡ 2 → ⊥
+file-version : (kind : ℕ) (values : List ℤ) → versionOf (fileOf kind values) ≡ 1
 unfolding fileOf header
-file-is-first kind values e = omega (arith, version-there 1 kind (length values) (valuesBytes values) (omega arith))
+file-version kind values = version-there 1 kind (length values) (valuesBytes values) (omega arith)
+
+file-is-first : (kind : ℕ) (values : List ℤ) → versionOf (fileOf kind values) ≡ 2 → ⊥
+file-is-first kind values e = omega (arith, file-version kind values)
 
 pub accepted-either : (bytes : List ℕ) (room : ℕ) → AreBytes bytes →
     (readRecordRefusal bytes room ≡ none → IsFile bytes room ⊎ IsFileFrom bytes room) × (IsFile bytes room ⊎ IsFileFrom bytes room → readRecordRefusal bytes room ≡ none)
@@ -255,3 +258,34 @@ accepted-either bytes room all = (λ accepted. by-version (eqb (versionOf bytes)
         let first : versionOf bytes ≡ 2 → ⊥ = rw (f .same) (file-is-first (f .kind) (f .values)) in
         as-first-version bytes first room ∙ accepted-exactly bytes room all .1 f
     is-read (inr f) = rw (f .same) (file-from-is-read (f .kind) (f .start) (f .values) (f .proper) (f .proper-start) room (f .enough))
+
+-- ---- what the reader of either version reads from a file
+
+pub record ReadAs (bytes : List ℕ) (version kind : ℕ) (start : ℤ) (values : List ℤ) : Type 0 where
+  pub version-is : versionOf bytes ≡ version
+  pub kind-is : kindOf bytes ≡ kind
+  pub start-is : startOf bytes ≡ start
+  pub count-is : countOf bytes ≡ length values
+  pub values-are : recordValues bytes ≡ values
+  pub unrefused : (room : ℕ) → length values ≤ room → readRecordRefusal bytes room ≡ none
+
+pub first-file-read : (kind : ℕ) (values : List ℤ) → Proper kind values → ReadAs (fileOf kind values) 1 kind (pos 0) values
+first-file-read kind values proper =
+    let first = file-is-first kind values in record {
+      version-is = file-version kind values;
+      kind-is = kind-comes-back kind values proper;
+      start-is = first-start (fileOf kind values) first;
+      count-is = count-comes-back kind values proper;
+      values-are = first-values (fileOf kind values) first ∙ values-come-back kind values proper;
+      unrefused = λ room enough. as-first-version (fileOf kind values) first room ∙ file-is-read kind values proper room enough;
+    }
+
+pub second-file-read : (kind : ℕ) (start : ℤ) (values : List ℤ) → Proper kind values → ProperStart kind start → ReadAs (fileFrom kind start values) 2 kind start values
+second-file-read kind start values proper proper-start = record {
+  version-is = version-comes-back-from kind start values proper proper-start;
+  kind-is = kind-comes-back-from kind start values proper proper-start;
+  start-is = start-comes-back kind start values proper proper-start;
+  count-is = count-comes-back-from kind start values proper proper-start;
+  values-are = values-come-back-from kind start values proper proper-start;
+  unrefused = file-from-is-read kind start values proper proper-start;
+}

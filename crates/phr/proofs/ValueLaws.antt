@@ -176,10 +176,10 @@ part-values place count bytes inside =
     let part = take (8 * count) behind in
     let whole : length part ≡ 8 * count = length-take-le (8 * count) behind (omega (arith, length-drop place bytes)) in
     tabulate-equal count (λ i. valueAt part (0 + 8 * i)) (λ i. valueAt bytes (place + 8 * i)) (λ i h.
-      ap (valueAt part) (omega arith)
-      ∙ value-in-front part (drop (8 * count) behind) (8 * i) (omega (arith, whole))
-      ∙ ap (λ (xs : List ℕ). valueAt xs (8 * i)) (take-append-drop (8 * count) behind)
-      ∙ value-past bytes place (8 * i))
+    ap (valueAt part) (omega arith)
+    ∙ value-in-front part (drop (8 * count) behind) (8 * i) (omega (arith, whole))
+    ∙ ap (λ (xs : List ℕ). valueAt xs (8 * i)) (take-append-drop (8 * count) behind)
+    ∙ value-past bytes place (8 * i))
 
 -- fewer of them are the first
 pub fewer-values : (place few count : ℕ) (bytes : List ℕ) → few ≤ count → take few (valuesFrom place count bytes) ≡ valuesFrom place few bytes

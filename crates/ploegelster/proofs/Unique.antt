@@ -51,6 +51,8 @@ use Rattle.ploegelster.proofs.files.plg_read_record.Reads as plg-read-r
 use Rattle.ploegelster.proofs.files.plg_read_record.Kinds as plg-read-record-kinds
 use Rattle.ploegelster.proofs.files.plg_write_record.Reads as plg-write-record
 use Rattle.ploegelster.proofs.files.plg_write_record.Kinds as plg-write-record-kinds
+use Rattle.ploegelster.proofs.files.plg_salvage.Reads as plg-salvage
+use Rattle.ploegelster.proofs.files.plg_salvage.Kinds as plg-salvage-kinds
 
 -- ---- published
 
@@ -138,3 +140,6 @@ plg-read-record-single κs args z z′ w w′ first second = (first .0 ∙ sym (
 
 pub plg-write-record-single : Single 2 plg-write-record-kinds.ps plg-write-record-kinds.r plg-write-record.Post
 plg-write-record-single κs args z z′ w w′ first second = (first .0 ∙ sym (second .0), λ i. (tt, (tt, (tt, ((first .1 ∙ sym (second .1)) i, tt)))))
+
+pub plg-salvage-single : Single 2 plg-salvage-kinds.ps plg-salvage-kinds.r plg-salvage.Post
+plg-salvage-single κs args z z′ w w′ first second = (first .0 ∙ sym (second .0), λ i. (tt, ((first .1 ∙ sym (second .1)) i, tt)))

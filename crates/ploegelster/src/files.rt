@@ -1,4 +1,5 @@
-// The record file, version 1, and either version.
+// The record file, version 1, and either version; what can still be had of a damaged one.
+use mending::SalvageAnswer;
 use phr::ReadAnswer;
 use phr::RecordAnswer;
 use record::CountAnswer;
@@ -9,6 +10,7 @@ ghost use Rattle.record.specs.Answers.{countAnswer, bufferLeft};
 ghost use Rattle.phr.specs.File.{fileOf, fileFrom};
 ghost use Rattle.phr.specs.Reading.{valuesOf, readRefusal, readAnswer, recordValues, readRecordRefusal, readRecordAnswer};
 ghost use Rattle.phr.specs.Writing.{writeRefusal, writeRecordRefusal};
+ghost use Rattle.mending.specs.Salvage.{salvagedFile, salvageRefusal, salvageAnswer};
 
 // Reads the values of a file of version 1 into the buffer.
 #[no_mangle]
@@ -49,4 +51,13 @@ pub extern "C" fn plg_write_record(
     ensures { λ r. ⌜ now (buffer .exit) ≡ bufferLeft (writeRecordRefusal kind start (now (values .entry)) (length (now (buffer .entry)))) (fileFrom kind start (now (values .entry))) (now (buffer .entry)) ⌝ }
 {
     phr::write_record(kind, start, values, buffer)
+}
+
+// Writes the proper file that can still be had of a damaged one of either version.
+#[no_mangle]
+pub extern "C" fn plg_salvage(bytes: &[u8], buffer: &mut [u8]) -> SalvageAnswer
+    ensures { λ r. ⌜ r ≡ salvageAnswer (now (bytes .entry)) (length (now (buffer .entry))) ⌝ }
+    ensures { λ r. ⌜ now (buffer .exit) ≡ bufferLeft (salvageRefusal (now (bytes .entry)) (length (now (buffer .entry)))) (salvagedFile (now (bytes .entry))) (now (buffer .entry)) ⌝ }
+{
+    mending::salvage(bytes, buffer)
 }
