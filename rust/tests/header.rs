@@ -207,6 +207,29 @@ fn a_record_has_its_version_and_its_start() {
     assert_eq!(offsets, [0, 8, 16, 24, 32, 40]);
 }
 
+/// The answer of a salvage is six words, of which the last is 0 or 1 and no type of true and false.
+#[test]
+fn a_salvage_has_both_counts_and_what_is_left_over() {
+    let declared = of_header();
+    for line in [
+        "struct SalvageAnswer { number: u64, place: u64, old_count: u64, new_count: u64, left_over: u64, met: u64 }",
+        "fn plg_salvage(bytes: *const u8, bytes_length: usize, buffer: *mut u8, buffer_length: usize) -> SalvageAnswer",
+    ] {
+        assert!(declared.contains(line), "{line}");
+    }
+    assert_eq!(std::mem::size_of::<boundary::SalvageAnswer>(), 6 * 8);
+    assert_eq!(std::mem::align_of::<boundary::SalvageAnswer>(), 8);
+    let offsets = [
+        std::mem::offset_of!(boundary::SalvageAnswer, number),
+        std::mem::offset_of!(boundary::SalvageAnswer, place),
+        std::mem::offset_of!(boundary::SalvageAnswer, old_count),
+        std::mem::offset_of!(boundary::SalvageAnswer, new_count),
+        std::mem::offset_of!(boundary::SalvageAnswer, left_over),
+        std::mem::offset_of!(boundary::SalvageAnswer, met),
+    ];
+    assert_eq!(offsets, [0, 8, 16, 24, 32, 40]);
+}
+
 #[test]
 fn a_safe_function_for_each_entry() {
     let sources = [

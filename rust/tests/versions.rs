@@ -8,7 +8,7 @@ use independent::file::{self, bytes_of, file_of, record_of, Kind, Version};
 use ploegelster::Record;
 use shared::answers::{expected, Words};
 use shared::ends::{self, beyond, block_counts, within};
-use shared::files::{end_of, values, KINDS};
+use shared::files::{end_of, most, sound_start, values, FILES, KINDS};
 use shared::lent::{Lent, Sides};
 use shared::random::Random;
 use shared::records::rooms;
@@ -59,38 +59,10 @@ fn write_case(tally: &mut Tally, kind: u64, start: i64, values: &[i64], room: us
     (raw.number, raw.place)
 }
 
-/// The most values of a kind.
-fn most(kind: Kind) -> usize {
-    match kind {
-        Kind::Phase => 32_768,
-        Kind::Frequency => 32_767,
-    }
-}
-
-/// A start of a sound file of this kind.
-fn sound_start(random: &mut Random, kind: Kind) -> i64 {
-    match kind {
-        Kind::Phase => 0,
-        Kind::Frequency => random.pick(&within(END)),
-    }
-}
-
 /// The length of the file of so many values in version 2.
 fn length_of(count: usize) -> usize {
     16 + 8 * count
 }
-
-/// Versions, kinds and starts of files that differ in more than their values.
-const FILES: [(Version, Kind, i64); 8] = [
-    (Version::One, Kind::Phase, 0),
-    (Version::One, Kind::Frequency, 0),
-    (Version::Two, Kind::Phase, 0),
-    (Version::Two, Kind::Frequency, 0),
-    (Version::Two, Kind::Frequency, 5),
-    (Version::Two, Kind::Frequency, -1),
-    (Version::Two, Kind::Frequency, END),
-    (Version::Two, Kind::Frequency, -END),
-];
 
 /// The two files that the rules give byte by byte.
 #[test]

@@ -1,6 +1,6 @@
 //! What the wrapper adds to the library: grounds, kinds and types for numbers, and words for a refusal.
 
-use ploegelster::{Ground, Kind, Meter, Noise, Refusal, Wide};
+use ploegelster::{Ground, Kind, Meter, Noise, Record, Refusal, Salvage, Wide};
 use std::error::Error;
 
 #[test]
@@ -53,6 +53,37 @@ fn a_start_that_phase_samples_do_not_have_in_words() {
     assert_eq!(refusal, Refusal { ground: Ground::BadFile, place: 8 });
     assert_eq!(refusal.to_string(), "refused 9, bad bytes or a bad length in a file, at 8");
     assert_eq!(bytes, [7; 24]);
+}
+
+#[test]
+fn what_was_salvaged_and_what_was_left_over() -> Result<(), Refusal> {
+    let mut bytes = [0; 40];
+    ploegelster::write_record(Kind::Frequency, 5, &[1, -1, 4], &mut bytes)?;
+    let mut buffer = [7; 41];
+    assert_eq!(ploegelster::salvage(&bytes, &mut buffer)?, Salvage { old_count: 3, new_count: 3, left_over: 0, met: false });
+    assert_eq!((&buffer[..40], buffer[40]), (&bytes[..], 7));
+    // A bit of the second value flips, and the third loses its last byte.
+    bytes[30] ^= 1;
+    buffer.fill(7);
+    assert_eq!(ploegelster::salvage(&bytes[..39], &mut buffer)?, Salvage { old_count: 3, new_count: 1, left_over: 15, met: true });
+    let mut values = [0; 1];
+    assert_eq!(ploegelster::read_record(&buffer[..24], &mut values)?, Record { version: 2, kind: Kind::Frequency, start: 5, count: 1 });
+    assert_eq!((values, &buffer[24..]), ([1], &[7; 17][..]));
+    Ok(())
+}
+
+#[test]
+fn what_cannot_be_salvaged_in_words() {
+    let mut bytes = [0; 24];
+    ploegelster::write_record(Kind::Frequency, 5, &[1], &mut bytes).unwrap();
+    let mut buffer = [7; 24];
+    let refusal = ploegelster::salvage(&bytes, &mut buffer[..23]).unwrap_err();
+    assert_eq!(refusal, Refusal { ground: Ground::NoRoom, place: 0 });
+    assert_eq!(refusal.to_string(), "refused 6, a lent buffer or ring that is too short, at 0");
+    bytes[5] = 0;
+    let refusal = ploegelster::salvage(&bytes, &mut buffer).unwrap_err();
+    assert_eq!(refusal.to_string(), "refused 9, bad bytes or a bad length in a file, at 8");
+    assert_eq!(buffer, [7; 24]);
 }
 
 #[test]

@@ -8,6 +8,7 @@ use super::fractions::*;
 use super::frequency::{frequency_from_phase, phase_from_frequency, phase_from_start};
 use super::meter;
 use super::noise::{bars, half_width, noise_of_record, noise_type, Bars, Noise};
+use super::salvage::{salvage, Salvaged};
 use super::sums::{allan_sum, modified_sum, Sum};
 use super::{Answer, Refusal};
 
@@ -254,4 +255,20 @@ fn whole_file_with_a_start() {
     assert_eq!(read_record(&file[..31], &mut values), refused(9, 31));
     assert_eq!(read_record(&file_of(Kind::Phase, &[4]), &mut values), Ok(Record { version: Version::One, kind: Kind::Phase, start: 0, count: 1 }));
     assert_eq!(values, [4, -1, 7]);
+}
+
+#[test]
+fn salvaged_file() {
+    let damaged = [&file_of(Kind::Phase, &[1, -1, END + 1])[..], &[0xAA; 4]].concat();
+    let whole = file_of(Kind::Phase, &[1, -1]);
+    let mut bytes = [9; 25];
+    assert_eq!(salvage(&damaged, &mut bytes), Ok(Salvaged { old_count: 3, new_count: 2, left_over: 12, met: true }));
+    assert_eq!((&bytes[..24], bytes[24]), (&whole[..], 9));
+    bytes.fill(9);
+    assert_eq!(salvage(&damaged[..28], &mut bytes), Ok(Salvaged { old_count: 3, new_count: 2, left_over: 4, met: false }));
+    assert_eq!((&bytes[..24], bytes[24]), (&whole[..], 9));
+    assert_eq!(salvage(&damaged, &mut bytes[..23]), refused(6, 0));
+    assert_eq!(salvage(&damaged[..7], &mut bytes), refused(9, 7));
+    assert_eq!(salvage(&record_of(Kind::Phase, 5, &[1]), &mut bytes), refused(9, 8));
+    assert_eq!(salvage(&record_of(Kind::Frequency, END + 1, &[1]), &mut bytes), refused(3, 0));
 }

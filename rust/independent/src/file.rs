@@ -21,7 +21,7 @@ impl Version {
     }
 
     /// How long the header is, and so where the values begin.
-    fn header(self) -> usize {
+    pub(crate) fn header(self) -> usize {
         match self {
             Version::One => FRONT,
             Version::Two => FRONT + 8,
@@ -57,20 +57,25 @@ impl Kind {
         }
     }
 
-    fn most_values(self) -> u64 {
+    pub(crate) fn most_values(self) -> u64 {
         match self {
             Kind::Phase => MOST_SAMPLES,
             Kind::Frequency => MOST_READINGS,
         }
     }
 
-    /// Refuses 3 at the first value outside the kind's range.
-    fn ask_values(self, values: &[i64]) -> Answer<()> {
+    /// The index of the first value outside the kind's range, if one is.
+    pub(crate) fn first_outside(self, values: &[i64]) -> Option<usize> {
         let end = match self {
             Kind::Phase => SAMPLE_END,
             Kind::Frequency => 2 * SAMPLE_END,
         };
-        match values.iter().position(|value| !(-end..=end).contains(value)) {
+        values.iter().position(|value| !(-end..=end).contains(value))
+    }
+
+    /// Refuses 3 at the first value outside the kind's range.
+    fn ask_values(self, values: &[i64]) -> Answer<()> {
+        match self.first_outside(values) {
             Some(index) => Err(Refusal { number: 3, place: index as u64 }),
             None => Ok(()),
         }
@@ -78,7 +83,7 @@ impl Kind {
 }
 
 /// Refuses 9 at place 8 a start that phase samples do not have.
-fn ask_start(kind: Kind, start: i64) -> Answer<()> {
+pub(crate) fn ask_start(kind: Kind, start: i64) -> Answer<()> {
     ask_at(kind == Kind::Frequency || start == 0, 9, 8)
 }
 
@@ -122,7 +127,7 @@ pub struct Record {
 }
 
 /// What a header says, for a reader of these versions, else 9 at its lowest wrong byte or where it ends. The start is not tested here.
-fn header(bytes: &[u8], versions: &[Version]) -> Answer<Record> {
+pub(crate) fn header(bytes: &[u8], versions: &[Version]) -> Answer<Record> {
     let version_of = |byte: u8| versions.iter().copied().find(|version| version.number() == byte as u16);
     for (offset, &byte) in bytes.iter().take(6).enumerate() {
         let right = match offset {
@@ -148,7 +153,7 @@ fn header(bytes: &[u8], versions: &[Version]) -> Answer<Record> {
 }
 
 /// The number of 64 bits in these eight bytes, the low byte first.
-fn number_of(eight: &[u8]) -> i64 {
+pub(crate) fn number_of(eight: &[u8]) -> i64 {
     i64::from_le_bytes(eight.try_into().expect("eight bytes"))
 }
 

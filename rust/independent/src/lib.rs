@@ -9,6 +9,7 @@ pub mod fractions;
 pub mod frequency;
 pub mod meter;
 pub mod noise;
+pub mod salvage;
 pub mod sums;
 
 #[cfg(test)]

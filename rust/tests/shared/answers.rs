@@ -7,6 +7,7 @@ use independent::floats::FloatSums;
 use independent::fractions::Fraction;
 use independent::meter::Meter;
 use independent::noise::{Bars, Noise};
+use independent::salvage::Salvaged;
 use independent::sums::{Sum, Sums};
 use independent::Answer;
 use ploegelster::boundary;
@@ -102,6 +103,12 @@ impl Words for boundary::ReadAnswer {
 impl Words for boundary::RecordAnswer {
     fn words(&self) -> Vec<u64> {
         vec![self.number, self.place, self.version, self.kind, self.start as u64, self.count]
+    }
+}
+
+impl Words for boundary::SalvageAnswer {
+    fn words(&self) -> Vec<u64> {
+        vec![self.number, self.place, self.old_count, self.new_count, self.left_over, self.met]
     }
 }
 
@@ -225,6 +232,13 @@ impl Values for Record {
     }
 }
 
+impl Values for Salvaged {
+    const LENGTH: usize = 4;
+    fn values(&self) -> Vec<u64> {
+        vec![self.old_count, self.new_count, self.left_over, self.met as u64]
+    }
+}
+
 /// How many entries the wrapper says were written.
 impl Values for usize {
     const LENGTH: usize = 1;
@@ -311,6 +325,13 @@ impl Values for ploegelster::Record {
     const LENGTH: usize = 4;
     fn values(&self) -> Vec<u64> {
         vec![self.version, self.kind.number(), self.start as u64, self.count as u64]
+    }
+}
+
+impl Values for ploegelster::Salvage {
+    const LENGTH: usize = 4;
+    fn values(&self) -> Vec<u64> {
+        vec![self.old_count as u64, self.new_count as u64, self.left_over as u64, self.met as u64]
     }
 }
 

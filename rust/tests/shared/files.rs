@@ -1,17 +1,46 @@
-//! Values of files, in their kind's range or about its ends.
+//! Files of both versions and kinds, and their values, in their kind's range or about its ends.
 
+use super::ends::within;
 use super::random::Random;
 use super::END;
-use independent::file::Kind;
+use independent::file::{Kind, Version};
 
 /// Both kinds.
 pub const KINDS: [Kind; 2] = [Kind::Phase, Kind::Frequency];
+
+/// Versions, kinds and starts of files that differ in more than their values.
+pub const FILES: [(Version, Kind, i64); 8] = [
+    (Version::One, Kind::Phase, 0),
+    (Version::One, Kind::Frequency, 0),
+    (Version::Two, Kind::Phase, 0),
+    (Version::Two, Kind::Frequency, 0),
+    (Version::Two, Kind::Frequency, 5),
+    (Version::Two, Kind::Frequency, -1),
+    (Version::Two, Kind::Frequency, END),
+    (Version::Two, Kind::Frequency, -END),
+];
 
 /// The values of a kind lie from minus this to this.
 pub fn end_of(kind: Kind) -> i64 {
     match kind {
         Kind::Phase => END,
         Kind::Frequency => 2 * END,
+    }
+}
+
+/// The most values of a kind.
+pub fn most(kind: Kind) -> usize {
+    match kind {
+        Kind::Phase => 32_768,
+        Kind::Frequency => 32_767,
+    }
+}
+
+/// A start of a sound file of this kind.
+pub fn sound_start(random: &mut Random, kind: Kind) -> i64 {
+    match kind {
+        Kind::Phase => 0,
+        Kind::Frequency => random.pick(&within(END)),
     }
 }
 

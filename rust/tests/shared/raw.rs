@@ -110,3 +110,7 @@ pub fn read_record(bytes: &[u8], buffer: &mut [i64]) -> RecordAnswer {
 pub fn write_record(kind: u64, start: i64, values: &[i64], buffer: &mut [u8]) -> CountAnswer {
     unsafe { plg_write_record(kind, start, values.as_ptr(), values.len(), buffer.as_mut_ptr(), buffer.len()) }
 }
+
+pub fn salvage(bytes: &[u8], buffer: &mut [u8]) -> SalvageAnswer {
+    unsafe { plg_salvage(bytes.as_ptr(), bytes.len(), buffer.as_mut_ptr(), buffer.len()) }
+}
