@@ -3,7 +3,7 @@
 -- specs/Promises.antt. The exported functions have the same contracts (Condition1.antt, NAME-is), or tell the same answers in numbers (NAME-tells).
 use mathlib.Core.Path.{_≡_, refl, sym, _∙_}
 use mathlib.Core.Bool.{Bool}
-use mathlib.Core.List.{List, [], _∷_}
+use mathlib.Core.List.{List, [], _∷_, _++_}
 use mathlib.Core.Logic.{_⊎_}
 use Prim.Native.Nat.{ℕ, _+_, _-_, _*_, _/_, _%_, _^_, _≤_, _<_}
 use native.Mathlib.Omega.{arith}
@@ -97,7 +97,7 @@ use Rattle.mending.proofs.salvage.Reads as salvage
 use Rattle.mending.proofs.salvage.Kinds as salvage-kinds
 use Rattle.acceptance.specs.Figures.{sumIs, fractionIs, squares}
 use Rattle.acceptance.specs.Grounds
-use Rattle.acceptance.specs.Promises.{SumOf, PartsOf, Changed, FractionOf, BackAndForth, GivenBack, DotOf, ToldAs, TypeByTable, NoiseOf, HalfOf, BarsOf, DriftRemoved, ConstantDrift, ReadsBack, RecordReadsBack, ReadAlike, ReadsSalvaged, AddsUp, MetBy, ComesBack}
+use Rattle.acceptance.specs.Promises.{SumOf, PartsOf, Changed, FractionOf, BackAndForth, GivenBack, DotOf, ToldAs, TypeByTable, NoiseOf, HalfOf, BarsOf, DriftRemoved, ConstantDrift, ReadsBack, RecordReadsBack, ReadAlike, ReadsSalvaged, AddsUp, MetBy, ComesBack, LeavesMore}
 use Rattle.acceptance.proofs.Grounding.{answered-none}
 use Rattle.acceptance.proofs.RecordGrounds.{record-agrees, multiple-agrees}
 use Rattle.acceptance.proofs.FigureGrounds.{fraction-agrees, deviation-agrees, dotted-none}
@@ -110,7 +110,7 @@ use Rattle.acceptance.proofs.VersionGrounds.{record-writing-agrees, rec
 use Rattle.acceptance.proofs.SalvageGrounds.{salvage-agrees}
 use Rattle.acceptance.proofs.Grounds.{allan-sum-grounds, modified-sum-grounds, allan-fraction-grounds, time-fraction-grounds, allan-deviation-grounds, time-deviation-grounds, phase-from-frequency-grounds, phase-from-start-grounds, frequency-from-phase-grounds, drift-figure-grounds, remove-drift-grounds, float-sums-grounds, drawn-number-grounds, allan-dot-grounds, time-dot-grounds, noise-type-grounds, noise-of-record-grounds, plg-noise-type-grounds, plg-noise-of-record-grounds, bars-grounds, plg-bars-grounds, read-file-grounds, write-file-grounds, read-record-grounds, write-record-grounds, salvage-grounds}
 use Rattle.acceptance.proofs.PromiseLaws.{allan-sum-of, modified-sum-of, phases-from-of, phases-left, phases-of, differences-of, differences-left, back-and-forth, record-given-back, readings-given-back, square-of-half, drift-of, divisor-some, result-of, drift-removed, one-result, same-slope, constant-slope, line-left, float-sums-of, one-nearest, unchanged-samples-of, whole-samples-of, reads-files-alone, reads-every-file, count-of, output-left, file-left, one-value-unrefused, written-proper, reads-back, reads-records-alone, reads-every-record, file-from-left, record-reads-back, reads-alike, version-is-1, drawn-of, dot-told, allan-dot-of, time-dot-of, allan-fraction-of, time-fraction-of, allan-deviation-of, time-deviation-of, allan-deviation-of-record, time-deviation-of-record, type-of, noise-of, bars-of, half-below-deviation, low-above-nought}
-use Rattle.acceptance.proofs.SalvageLaws.{new-count-is, salvaged-left, adds-up, met-by, reads-salvaged, comes-back, salvaged-comes-back}
+use Rattle.acceptance.proofs.SalvageLaws.{new-count-is, salvaged-left, adds-up, met-by, reads-salvaged, comes-back, salvaged-comes-back, leaves-more}
 use Rattle.acceptance.proofs.Figures.{starred-figures}
 
 -- ---- the published sums: x the record, N its length, m the factor
@@ -590,6 +590,14 @@ salvage-of-salvaged κs args z w is answered κs′ args′ z′ w′ is′ read
     let count : z .«new_count» ≡ length (keptValues bytes) = rw (is .0) (new-count-is bytes (now (args .1 .0)) nothing) in
     let written : now (args′ .0) ≡ salvagedFile bytes = read ∙ rw (is .0, is .1) (salvaged-left bytes (now (args .1 .0)) nothing) in
     rw (count, is′ .0, is′ .1, written) (salvaged-comes-back bytes (now (args .1 .0)) nothing (now (args′ .1 .0)) (rw written at room))
+
+-- What stands behind as many bytes as the longest file has is left over, and has no other say: so a reader may keep that many and count the rest.
+pub longer-file-leaves-more : Always 2 salvage-kinds.ps salvage-kinds.r salvage.Post
+    (λ κs args z w. let bytes = now (args .0) in let buffer = now (args .1 .0) in
+    262160 ≤ length bytes → Always 2 salvage-kinds.ps salvage-kinds.r salvage.Post
+    (λ κs′ args′ z′ w′. (rest : List ℕ) → now (args′ .0) ≡ bytes ++ rest → now (args′ .1 .0) ≡ buffer → LeavesMore (length rest) z z′ (w .1 .0) (w′ .1 .0)))
+longer-file-leaves-more κs args z w is long κs′ args′ z′ w′ is′ rest same room =
+    rw (is .0, is .1, is′ .0, is′ .1, same, room) (leaves-more (now (args .0)) rest long (now (args .1 .0)))
 
 -- ---- the starred record 0 1 4 9 16 25 at m = 1: refusing everything, or giving 0/1 always, is shut out
 

@@ -1,13 +1,13 @@
 -- What salvage promises, of its answer and of the buffer that it leaves.
 use mathlib.Core.Path.{_≡_, refl, sym, ap, _∙_}
 use mathlib.Core.Bool.{Bool, true, false, cond}
-use mathlib.Core.List.{List}
+use mathlib.Core.List.{List, _++_}
 use Prim.Native.Nat.{ℕ, _+_, _-_, _*_, _≤_}
 use native.Mathlib.Omega.{arith}
-use borrow.Author.Tests.{ltb-true, ltb-false}
-use lib.Dec.{ltb}
+use borrow.Author.Tests.{ltb-true, ltb-false, eqb-true, eqb-false}
+use lib.Dec.{ltb, eqb}
 use lib.IntN.{ℤ, pos}
-use lib.ListN.{length, take}
+use lib.ListN.{length, take, length-append}
 use lib.Seq.{take-at}
 use Rattle.laws.proofs.ListLaws.{first-failing-within, fails-there, all-pass}
 use Rattle.record.specs.Answers.{bufferLeft}
@@ -20,7 +20,8 @@ use Rattle.mending.specs.Salvage.{presentValues, firstBad, keptValues, salvaged
 use Rattle.mending.proofs.KeptLaws.{present-length, first-bad-within, kept-length, kept-longest, salvaged-length, salvaged-within}
 use Rattle.mending.proofs.SalvageCases.{Salvageable, unrefused-salvageable}
 use Rattle.mending.proofs.Salvaged.{salvaged-read, salvaged-bytes, sound-unchanged, sound-unrefused, sound-answer}
-use Rattle.acceptance.specs.Promises.{ReadsSalvaged, AddsUp, MetBy, ComesBack}
+use Rattle.mending.proofs.LongerLaws.{count-stays, first-bad-stays, kept-stay, salvaged-stays, present-length-stays, refusal-stays}
+use Rattle.acceptance.specs.Promises.{ReadsSalvaged, AddsUp, MetBy, ComesBack, LeavesMore}
 
 -- the buffer as salvage leaves it
 abbrev salvageBuffer : List ℕ → List ℕ → List ℕ
@@ -96,3 +97,41 @@ salvaged-comes-back bytes buffer nothing space enough =
     let most = length (keptValues bytes) in
     rw (sym (again .count-is))
     (comes-back (salvagedFile bytes) (salvaged-bytes bytes (length buffer) here) most (again .unrefused most (omega arith)) space enough)
+
+-- ---- bytes behind the longest file
+
+pub leaves-more : (bytes rest : List ℕ) → 262160 ≤ length bytes → (buffer : List ℕ) →
+    LeavesMore (length rest) (salvageAnswer bytes (length buffer)) (salvageAnswer (bytes ++ rest) (length buffer)) (salvageBuffer bytes buffer) (salvageBuffer (bytes ++ rest) buffer)
+unfolding salvageAnswer bufferLeft
+leaves-more bytes rest long buffer = by-number (eqb (r .number) 0) refl
+  where
+    r : Refusal
+    r = salvageRefusal bytes (length buffer)
+
+    same : salvageRefusal (bytes ++ rest) (length buffer) ≡ r
+    same = refusal-stays bytes rest long (length buffer)
+
+    by-number : (nought : Bool) → eqb (r .number) 0 ≡ nought →
+        LeavesMore (length rest) (salvageAnswer bytes (length buffer)) (salvageAnswer (bytes ++ rest) (length buffer)) (salvageBuffer bytes buffer) (salvageBuffer (bytes ++ rest) buffer)
+    by-number true t =
+        let here = unrefused-salvageable bytes (length buffer) (eqb-true (r .number) 0 t) in
+        let few = here .few in
+        rw (same, t, count-stays bytes rest (omega arith), kept-stay bytes rest long few, salvaged-stays bytes rest long few, first-bad-stays bytes rest long few, present-length-stays bytes rest long few)
+        (record {
+          number = refl;
+          place = refl;
+          old = refl;
+          new = refl;
+          left-over = λ answered. omega (arith, length-append bytes rest, salvaged-within bytes (here .header .present));
+          met = refl;
+          buffer = refl;
+        })
+    by-number false t = rw (same, t) (record {
+      number = refl;
+      place = refl;
+      old = refl;
+      new = refl;
+      left-over = λ answered. absurd (eqb-false (r .number) 0 t answered);
+      met = refl;
+      buffer = refl;
+    })

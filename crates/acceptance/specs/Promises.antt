@@ -191,3 +191,13 @@ pub record ComesBack (bytes : List ℕ) (count : ℕ) (left : List ℕ) (z : Sal
   pub left-over : z .«left_over» ≡ 0
   pub met : z .met ≡ 0
   pub same : take (length bytes) left ≡ bytes
+
+-- the same bytes with so many more behind them: these are left over besides, and nothing else is other
+pub record LeavesMore (more : ℕ) (z z′ : SalvageAnswer) (left left′ : List ℕ) : Type 0 where
+  pub number : z′ .number ≡ z .number
+  pub place : z′ .place ≡ z .place
+  pub old : z′ .«old_count» ≡ z .«old_count»
+  pub new : z′ .«new_count» ≡ z .«new_count»
+  pub left-over : z .number ≡ 0 → z′ .«left_over» ≡ z .«left_over» + more
+  pub met : z′ .met ≡ z .met
+  pub buffer : left′ ≡ left

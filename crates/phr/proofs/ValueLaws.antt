@@ -160,7 +160,7 @@ module _ (place count : ℕ) (bytes : List ℕ) where
 
 -- ---- values of a part of the bytes
 
-value-in-front : (front rest : List ℕ) (place : ℕ) → place + 8 ≤ length front → valueAt front place ≡ valueAt (front ++ rest) place
+pub value-in-front : (front rest : List ℕ) (place : ℕ) → place + 8 ≤ length front → valueAt front place ≡ valueAt (front ++ rest) place
 unfolding valueAt
 value-in-front front rest place h =
     rw (drop-append-le place front rest (omega arith), take-append-le 8 (drop place front) rest (omega (arith, length-drop place front)))
@@ -180,6 +180,12 @@ part-values place count bytes inside =
     ∙ value-in-front part (drop (8 * count) behind) (8 * i) (omega (arith, whole))
     ∙ ap (λ (xs : List ℕ). valueAt xs (8 * i)) (take-append-drop (8 * count) behind)
     ∙ value-past bytes place (8 * i))
+
+-- what follows them has no say
+pub front-values : (place count : ℕ) (front rest : List ℕ) → place + 8 * count ≤ length front → valuesFrom place count (front ++ rest) ≡ valuesFrom place count front
+front-values place count front rest inside =
+    tabulate-equal count (λ i. valueAt (front ++ rest) (place + 8 * i)) (λ i. valueAt front (place + 8 * i))
+    (λ i h. sym (value-in-front front rest (place + 8 * i) (omega arith)))
 
 -- fewer of them are the first
 pub fewer-values : (place few count : ℕ) (bytes : List ℕ) → few ≤ count → take few (valuesFrom place count bytes) ≡ valuesFrom place few bytes
