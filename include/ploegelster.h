@@ -347,7 +347,7 @@ plg_count_answer plg_write_record(uint64_t kind, int64_t start, const int64_t *v
  * Writes what can still be had of a damaged file of either version with a sound header, as a proper file of the same version, kind and starting phase.
  * Looked at are the values that the header's count speaks of, as far as their eight bytes are all there; kept are those before the first that is
  * outside the range of its kind, all where none is. The new file has bytes_length - left_over bytes, and plg_read_record accepts it. A sound file comes
- * back byte for byte, with nothing left over. A buffer of bytes_length bytes is always long enough.
+ * back byte for byte, with nothing left over. A buffer of bytes_length bytes is always long enough; it must be another one than the input's.
  * Refuses 9 (at the lowest wrong byte of the first eight, else at the length where the header is short, which has 16 bytes in version 2, else at
  * place 8 where the kind is 0 and the start is not 0), 2 (the header's count too large for the kind), 6 (buffer below the new file's length), 3 (start
  * outside the sample range, at place 0). A wrong length and a value outside its range are no refusal here.
