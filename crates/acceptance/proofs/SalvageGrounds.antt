@@ -1,13 +1,13 @@
 -- The refusals of salvage agree with their table of grounds.
-use mathlib.Core.Path.{_≡_, refl, ap}
+use mathlib.Core.Path.{refl, ap}
 use mathlib.Core.Bool.{not}
 use mathlib.Core.List.{List}
-use Prim.Native.Nat.{ℕ, _≤_}
+use Prim.Native.Nat.{ℕ}
 use native.Mathlib.Omega.{arith}
 use borrow.Author.Tests.{ltb-true, ltb-false, lt-ltb, le-ltb, not-true}
 use lib.Dec.{ltb}
 use lib.ListN.{length}
-use Rattle.record.specs.Refusals.{none, refusedIf, _then_, inRange}
+use Rattle.record.specs.Refusals.{refusedIf, _then_, inRange}
 use Rattle.record.specs.declared.Refusal.{Refusal}
 use Rattle.phr.specs.Reading.{startOf, countedHeaderRefusal}
 use Rattle.mending.specs.Salvage.{salvagedFile, salvageRefusal, salvageAnswer}

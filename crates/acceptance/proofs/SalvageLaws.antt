@@ -1,8 +1,8 @@
 -- What salvage promises, of its answer and of the buffer that it leaves.
-use mathlib.Core.Path.{_≡_, refl, sym, ap, _∙_}
+use mathlib.Core.Path.{_≡_, refl, sym, ap}
 use mathlib.Core.Bool.{Bool, true, false, cond}
 use mathlib.Core.List.{List, _++_}
-use Prim.Native.Nat.{ℕ, _+_, _-_, _*_, _≤_}
+use Prim.Native.Nat.{ℕ, _+_, _-_, _≤_}
 use native.Mathlib.Omega.{arith}
 use borrow.Author.Tests.{ltb-true, ltb-false, eqb-true, eqb-false}
 use lib.Dec.{ltb, eqb}
@@ -14,10 +14,10 @@ use Rattle.record.specs.Answers.{bufferLeft}
 use Rattle.record.specs.Refusals.{none}
 use Rattle.record.specs.declared.Refusal.{Refusal}
 use Rattle.phr.specs.File.{valueInRange, AreBytes}
-use Rattle.phr.specs.Reading.{kindOf, countOf, versionOf, headLength, startOf, recordValues, readRecordRefusal, readRecordAnswer}
+use Rattle.phr.specs.Reading.{kindOf, countOf, readRecordRefusal, readRecordAnswer}
 use Rattle.phr.proofs.AnswerCases.{recordBuffer}
 use Rattle.mending.specs.Salvage.{presentValues, firstBad, keptValues, salvagedFile, salvageRefusal, salvageAnswer}
-use Rattle.mending.proofs.KeptLaws.{present-length, first-bad-within, kept-length, kept-longest, salvaged-length, salvaged-within}
+use Rattle.mending.proofs.KeptLaws.{first-bad-within, kept-length, kept-longest, salvaged-length, salvaged-within}
 use Rattle.mending.proofs.SalvageCases.{Salvageable, unrefused-salvageable}
 use Rattle.mending.proofs.Salvaged.{salvaged-read, salvaged-bytes, sound-unchanged, sound-unrefused, sound-answer}
 use Rattle.mending.proofs.LongerLaws.{count-stays, first-bad-stays, kept-stay, salvaged-stays, present-length-stays, refusal-stays}

@@ -1,13 +1,14 @@
--- Signed numbers as words of 64 bits: the word that two tests and a cast make of a number, the word of a number that is moved up, and the bits of many
--- words gathered in one.
-use mathlib.Core.Path.{_≡_, refl, _∙_}
+-- Signed numbers as words of 64 bits: nought, the word that two tests and a cast make of a number, the word of a number that is moved up, and the bits
+-- of many words gathered in one.
+use mathlib.Core.Path.{_≡_, refl, sym, ap, _∙_}
 use mathlib.Core.Bool.{true, false}
 use Prim.Native.Nat.{ℕ, suc, _+_, _-_, _*_, _%_, _^_, _≤_, _<_}
 use native.Mathlib.Nat.{le-trans}
 use native.Mathlib.Omega.{arith}
 use borrow.Author.Count.{below-more}
+use borrow.Author.Tests.{ne-eqb}
 use lib.Bits.{bitOr, or-add-and, and-le-l, and-le-r}
-use lib.Dec.{T}
+use lib.Dec.{T, eqb}
 use lib.IntN.{ℤ, pos, negsuc, natAbs}
 use lib.Signed.{ltZ, nonNeg}
 use mir.Syntax.{w64}
@@ -25,6 +26,17 @@ word-below (negsuc n) h = refl
 word-above : (z : ℤ) → minus z ≤ plus z → plus z ≡ ofZ w64 z
 word-above (pos n) h = refl
 word-above (negsuc n) h = absurd (omega arith)
+
+-- ---- nought
+
+-- a word is nought where its number is
+pub nought-word : (z : ℤ) → SFits w64 z → eqb (ofZ w64 z) 0 ≡ eqb (natAbs z) 0
+nought-word (pos n) f = refl
+nought-word (negsuc n) f = ne-eqb (2 ^ 64 - suc n) 0 (λ e. omega (arith, f .sfits)) ∙ sym (ne-eqb (suc n) 0 (λ e. omega arith))
+
+pub size-nought : (z : ℤ) → natAbs z ≡ 0 → z ≡ pos 0
+size-nought (pos n) e = ap pos e
+size-nought (negsuc n) e = absurd (omega arith)
 
 -- ---- the word of a number z below nought is 2^64 - 1 - (-(z + 1)), and of another the number itself
 

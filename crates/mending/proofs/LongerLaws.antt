@@ -6,13 +6,10 @@ use Prim.Native.Nat.{ℕ, suc, _+_, _-_, _*_, _≤_, _<_}
 use native.Mathlib.Omega.{arith}
 use borrow.Author.Tests.{le-ltb, eqb-true, eqb-false}
 use lib.Dec.{eqb}
-use lib.IntN.{pos}
 use lib.ListN.{length, getD, length-append, List·getD-append}
-use Rattle.record.specs.Refusals.{none}
-use Rattle.record.specs.declared.Refusal.{Refusal}
 use Rattle.phr.specs.File.{mostValues}
 use Rattle.phr.specs.Reading.{soundUpTo, kindOf, countOf, testsOf, eitherTests, versionOf, headLength, startOf, headerRefusal, countedHeaderRefusal}
-use Rattle.phr.proofs.ReadCases.{head-length-bounded, most-values-bounded, first-start, second-start, unrefused-counted-header}
+use Rattle.phr.proofs.ReadCases.{head-length-bounded, most-values-bounded, unrefused-counted-header}
 use Rattle.phr.proofs.ValueLaws.{value-in-front, front-values}
 use Rattle.mending.specs.Salvage.{presentValues, firstBad, keptValues, salvagedFile, salvageRefusal}
 use Rattle.mending.proofs.KeptLaws.{presentCount}

@@ -1,5 +1,5 @@
 -- The cases of salvage's refusals in their order, what is known where nothing is refused, and the two cases of the call.
-use mathlib.Core.Path.{_≡_, ap, _∙_}
+use mathlib.Core.Path.{_≡_, _∙_}
 use mathlib.Core.Bool.{true, false, not, cond}
 use mathlib.Core.List.{List}
 use Prim.Native.Nat.{ℕ, _+_, _-_, _*_, _≤_, _<_}
@@ -10,12 +10,11 @@ use lib.ListN.{length}
 use Rattle.laws.specs.Lists.{written}
 use Rattle.record.specs.Answers.{bufferLeft}
 use Rattle.record.specs.Refusals.{none, refused, refusedIf, _then_, inRange}
-use Rattle.record.specs.declared.Refusal.{Refusal}
 use Rattle.record.proofs.RefusalLaws.{refusal-stands, none-gives-way, first-refuses-nothing, rest-refuses-nothing, test-fails}
 use Rattle.phr.specs.File.{mostValues}
 use Rattle.phr.specs.Reading.{kindOf, countOf, headLength, startOf, countedHeaderRefusal}
 use Rattle.phr.proofs.ReadCases.{SoundHeader, unrefused-counted-header}
-use Rattle.mending.specs.Salvage.{presentValues, firstBad, keptValues, salvagedFile, salvageRefusal, salvageAnswer}
+use Rattle.mending.specs.Salvage.{firstBad, salvagedFile, salvageRefusal, salvageAnswer}
 use Rattle.mending.specs.declared.SalvageAnswer.{SalvageAnswer}
 use Rattle.mending.proofs.KeptLaws.{presentCount, present-length, kept-length, salvaged-length}
 

@@ -13,7 +13,7 @@ use lib.Seq.{take-length}
 use Rattle.laws.proofs.ListLaws.{none-fails}
 use Rattle.record.specs.Refusals.{none}
 use Rattle.record.specs.declared.Refusal.{Refusal}
-use Rattle.phr.specs.File.{fileOf, fileFrom, valueInRange, Proper, ProperStart, AreBytes}
+use Rattle.phr.specs.File.{valueInRange, Proper, ProperStart, AreBytes}
 use Rattle.phr.specs.Reading.{kindOf, countOf, eitherTests, versionOf, startOf, recordValues, readRecordRefusal}
 use Rattle.phr.proofs.ReadCases.{ReadableRecord, unrefused-record, sound-header-none, few-said, record-values-length, first-start}
 use Rattle.phr.proofs.RoundTrip.{kind-passed, file-bytes, accepted-is-file}

@@ -1,15 +1,14 @@
 -- The new file as it is stored: the front of the damaged one, with another count.
-use mathlib.Core.Path.{_≡_, refl, sym, ap, ap₂, _∙_}
+use mathlib.Core.Path.{_≡_, refl, sym, ap₂, _∙_}
 use mathlib.Core.Bool.{Bool, true, false}
 use mathlib.Core.List.{List, _++_, append-assoc}
 use Prim.Native.Nat.{ℕ, _+_, _*_, _/_, _%_, _≤_}
-use native.Mathlib.Omega.{arith}
 use borrow.Author.Tests.{eqb-true, eqb-false}
 use lib.Dec.{eqb}
 use lib.ListN.{length, take, drop, set}
 use lib.Seq.{take-add}
 use Rattle.laws.specs.Lists.{written}
-use Rattle.phr.specs.Bytes.{lowFirst, valuesBytes, valuesFrom}
+use Rattle.phr.specs.Bytes.{lowFirst, valuesBytes}
 use Rattle.phr.specs.File.{firstEight, header, fileOf, headerFrom, fileFrom, AreBytes}
 use Rattle.phr.specs.Reading.{kindOf, countOf, versionOf, headLength, startOf}
 use Rattle.phr.proofs.ReadCases.{SoundHeader, first-head, second-head}

@@ -1,5 +1,5 @@
 -- Salvage of a damaged file: the values that are kept, the file that is written, what is refused and what is answered.
-use mathlib.Core.Bool.{Bool, true, cond, not}
+use mathlib.Core.Bool.{true, cond, not}
 use mathlib.Core.List.{List}
 use mathlib.Core.Path.{_≡_}
 use Prim.Native.Nat.{ℕ, _-_, _/_, _≤_, _<_, min}

@@ -39,7 +39,8 @@ most-values-bounded kind = by-kind (eqb kind 0)
     by-kind true = omega arith
     by-kind false = omega arith
 
--- the header and the start by the version
+-- ---- the header and the start by the version
+
 module _ (bytes : List ℕ) (first : versionOf bytes ≡ 2 → ⊥) where
   pub first-head : headLength bytes ≡ 8
   unfolding headLength
@@ -65,6 +66,8 @@ head-length-bounded bytes = by-version (eqb (versionOf bytes) 2)
     by-version : (second : Bool) → (8 ≤ cond second 16 8) × (cond second 16 8 ≤ 16)
     by-version true = omega arith
     by-version false = omega arith
+
+-- ---- how many values there are
 
 pub values-of-length : (bytes : List ℕ) → length (valuesOf bytes) ≡ countOf bytes
 unfolding valuesOf

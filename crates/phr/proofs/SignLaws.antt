@@ -1,12 +1,12 @@
 -- Two's complement is what the machine reads and writes, so that a signed number of 64 bits and its word give each other back; and what the code
 -- makes of a word's top bit is two's complement, with no overflow on the way.
-use mathlib.Core.Path.{_≡_, refl, sym, ap, _∙_}
+use mathlib.Core.Path.{_≡_, refl, ap, _∙_}
 use mathlib.Core.Bool.{Bool, true, false, cond}
 use Prim.Native.Nat.{ℕ, suc, _-_, _^_, _≤_, _<_}
 use native.Mathlib.Omega.{arith}
-use borrow.Author.Tests.{le-ltb, ne-eqb}
-use lib.Dec.{ltb, eqb}
-use lib.IntN.{ℤ, pos, negsuc, natAbs}
+use borrow.Author.Tests.{le-ltb}
+use lib.Dec.{ltb}
+use lib.IntN.{ℤ, pos, negsuc}
 use lib.Signed.{mag}
 use mir.Syntax.{w64}
 use mir.Val.{SFits, toZ, ofZ, sel}
@@ -40,11 +40,6 @@ twos-complement-back z f = rw (twos-complement-is, signed-is) (toZ-ofZ f)
 
 pub signed-back : (n : ℕ) → n < 2 ^ 64 → twosComplement (signed n) ≡ n
 signed-back n h = rw (twos-complement-is, signed-is) (ofZ-toZ {w = w64} (record { fits = h }))
-
--- a word is nought where its number is
-pub nought-word : (z : ℤ) → SFits w64 z → eqb (ofZ w64 z) 0 ≡ eqb (natAbs z) 0
-nought-word (pos n) f = refl
-nought-word (negsuc n) f = ne-eqb (2 ^ 64 - suc n) 0 (λ e. omega (arith, f .sfits)) ∙ sym (ne-eqb (suc n) 0 (λ e. omega arith))
 
 -- ---- a word with its top bit set stands for -(2^64 - 1 - n) - 1
 

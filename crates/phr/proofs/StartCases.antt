@@ -2,15 +2,11 @@
 use mathlib.Core.Path.{_≡_, refl, ap}
 use mathlib.Core.Bool.{Bool, true, false, true≢false, cond}
 use Prim.Native.Nat.{ℕ}
-use native.Mathlib.Omega.{arith}
 use borrow.Author.Tests.{eq-eqb, ne-eqb, eqb-true, eqb-false}
 use lib.Dec.{eqb}
-use lib.IntN.{ℤ, pos, negsuc, natAbs}
+use lib.IntN.{ℤ, pos, natAbs}
+use Rattle.laws.proofs.Words.{size-nought}
 use Rattle.phr.specs.File.{startFits}
-
-size-nought : (z : ℤ) → natAbs z ≡ 0 → z ≡ pos 0
-size-nought (pos n) e = ap pos e
-size-nought (negsuc n) e = absurd (omega arith)
 
 module _ (kind : ℕ) (start : ℤ) where
   pub fit-passes : (kind ≡ 0 → start ≡ pos 0) → startFits kind start ≡ true

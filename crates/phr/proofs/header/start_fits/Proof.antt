@@ -1,7 +1,7 @@
 -- `phr::header::start_fits` meets its contract.
 use borrow.Author.Tests.{eq-eqb, ne-eqb}
 use Rattle.phr.specs.File.{startFits}
-use Rattle.phr.proofs.SignLaws.{nought-word}
+use Rattle.laws.proofs.Words.{nought-word}
 use Rattle.phr.proofs.header.start_fits.Statement.{statement}
 use Rattle.phr.proofs.header.start_fits.Tie as tie
 
