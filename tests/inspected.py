@@ -6,31 +6,15 @@ import os
 import random
 import re
 import resource
-import shutil
 import socket
-import struct
-import subprocess
 import sys
 import tempfile
 from math import isqrt
 
-ROOT = os.path.dirname(os.path.dirname(os.path.abspath(__file__)))
+from record_files import END, NOBODY, ROOT, WORDS, Room, changed, header, number_at, same, sound, write_data
+
 CRATE = os.path.join(ROOT, "crates/inspect")
 DATA = os.path.join(CRATE, "data")
-# As .ci/machine sets it where the machine is no x86-64.
-EMULATOR = os.environ.get("EMULATOR", "").split()
-END = 2**40
-
-
-def sound(kind, values, start=None):
-    """A file of version 1, or of version 2 where there is a start."""
-    head = [] if start is None else [start]
-    return b"PHR" + struct.pack("<HBH", 1 + len(head), kind, len(values)) + b"".join(struct.pack("<q", v) for v in head + values)
-
-
-def changed(data, place, byte):
-    return data[:place] + bytes([byte]) + data[place + 1:]
-
 
 SQUARES = sound(0, [0, 1, 4, 9, 16, 25])
 STARTED = sound(1, [3, -1, 4], 5)
@@ -75,45 +59,18 @@ FILES = {
 MISSING = "missing.phr"
 
 
-def words():
-    """The words of each refusal's number, from the header."""
-    header = open(os.path.join(ROOT, "include/ploegelster.h")).read()
-    numbers = dict(re.findall(r"#define (PLG_[A-Z_]+) (\d+)\n", header))
-    return {int(numbers[name]): text for name, text in re.findall(r'case (PLG_[A-Z_]+): return "([^"]*)";', header)}
-
-
-WORDS = words()
-
-
 def refused(number, place=0):
     """The place is said where it means something: a byte of a file, or the index of a value."""
     kind = {3: "index", 9: "byte"}.get(number)
     return f"refused {number}, {WORDS[number]}" + (f", at {kind} {place}" if kind else "")
 
 
-def header(data):
-    """The lowest wrong byte among the first eight that are present, else the length if the header is short."""
-    for place, (right, byte) in enumerate(zip((b"P", b"H", b"R", b"\1\2", b"\0", b"\0\1"), data)):
-        if byte not in right:
-            return place
-    return len(data) if len(data) < 8 or data[3] == 2 and len(data) < 16 else None
-
-
-def number_at(data, place):
-    return int.from_bytes(data[place:place + 8], "little", signed=True)
-
-
 def read(data):
     """(number, place) where the file is refused, else (version, kind, start, values)."""
-    place = header(data)
-    if place is not None:
-        return (9, place), None
-    version, kind, count = data[3], data[5], int.from_bytes(data[6:8], "little")
-    start = number_at(data, 8) if version == 2 else 0
-    if kind == 0 and start != 0:
-        return (9, 8), None
-    if count > (32768 if kind == 0 else 32767):
-        return (2, 0), None
+    refusal, said = header(data)
+    if refusal:
+        return refusal, None
+    version, kind, count, start = said
     right = 8 * (version + count)
     if len(data) != right:
         return (9, min(len(data), right)), None
@@ -172,51 +129,29 @@ def line(name, folder=DATA):
     return f"{text}{figures(values)}\n"
 
 
-def same(what, found, right):
-    if found != right:
-        sys.exit(f"inspect: {what}\nfound: {found!r}\nright: {right!r}")
-
-
-class Room:
-    """A folder with the record files and the program, that anybody may use."""
-
-    def __init__(self, folder):
-        self.folder, self.runs = folder, 0
-        os.chmod(folder, 0o755)
-        shutil.copytree(DATA, folder, dirs_exist_ok=True)
-        shutil.copy(os.path.join(ROOT, "target/bin/inspect"), self.path("program"))
-        for name in os.listdir(folder):
-            os.chmod(self.path(name), 0o755)
-
-    def path(self, name):
-        return os.path.join(self.folder, name)
-
-    def write(self, name, data):
-        with open(self.path(name), "wb") as file:
-            file.write(data)
+class Watched(Room):
+    """A room in which every write of the program is seen."""
 
     def start(self, names, **how):
         """The program as a child, and a socket each for its two outputs, on which a write is a packet."""
         ours, theirs = zip(*(socket.socketpair(socket.AF_UNIX, socket.SOCK_SEQPACKET) for _ in range(2)))
-        child = subprocess.Popen([*EMULATOR, self.path("program"), *names], cwd=self.folder, stdin=subprocess.DEVNULL,
-                                 **{"stdout": theirs[0], "stderr": theirs[1], **how})
+        child = self.child(names, **{"stdout": theirs[0], "stderr": theirs[1], **how})
         for end in theirs:
             end.close()
         return child, ours
 
-    def ended(self, child, ours):
+    def writes(self, child, ours):
         """Every write to standard output and every write to standard error."""
         writes = []
         for end in ours:
             end.settimeout(60)
             writes.append([packet.decode() for packet in iter(lambda: end.recv(1 << 20), b"")])
             end.close()
-        same("the status", child.wait(60), 0)
-        self.runs += 1
+        self.ended(child)
         return writes
 
     def run(self, what, names, out, err, **how):
-        said = self.ended(*self.start(names, **how))
+        said = self.writes(*self.start(names, **how))
         same(f"{what}: standard output", said[0], out)
         same(f"{what}: standard error", said[1], err)
 
@@ -296,11 +231,10 @@ def troubles(room):
     os.symlink("loop", room.path("loop"))
     room.write("denied.phr", SQUARES)
     os.chmod(room.path("denied.phr"), 0)
-    nobody = {"user": 65534, "group": 65534, "extra_groups": []} if os.geteuid() == 0 else {}
     room.run("a directory", ["folder"], [], [failed("folder", "read", "is a directory")])
     room.run("no directory", ["cut.phr/x"], [], [failed("cut.phr/x", "opened", "not a directory")])
     room.run("a number", ["loop"], [], [failed("loop", "opened", "error 40")])
-    room.run("denied", ["denied.phr"], [], [failed("denied.phr", "opened", "permission denied")], **nobody)
+    room.run("denied", ["denied.phr"], [], [failed("denied.phr", "opened", "permission denied")], **NOBODY)
     with open("/dev/full", "w") as full:
         room.run("a full disk", ["two.phr"], [], [failed("standard output", "written", "no space left on device")], stdout=full)
 
@@ -312,14 +246,14 @@ def open_files(room):
     with open(room.path("pipe"), "wb") as pipe:
         resource.prlimit(child.pid, resource.RLIMIT_NOFILE, (3, 3))
         pipe.write(SQUARES)
-    out, err = room.ended(child, ours)
+    out, err = room.writes(child, ours)
     same("a pipe", out, [line("squares.phr").replace("squares.phr", "pipe")])
     same("too many files", err, [failed("cut.phr", "opened", "too many open files")])
 
 
 def words_of_its_own(room):
     room.run("no argument", [], [], ["usage: inspect FILE.. (inspect --help says more)\n"])
-    helps = [room.ended(*room.start([word])) for word in ("--help", "-h")]
+    helps = [room.writes(*room.start([word])) for word in ("--help", "-h")]
     same("-h", helps[1], helps[0])
     same("help, standard error", helps[0][1], [])
     text = "".join(helps[0][0])
@@ -332,10 +266,7 @@ def words_of_its_own(room):
 
 def main():
     if sys.argv[1:] == ["write"]:
-        shutil.rmtree(DATA)
-        os.mkdir(DATA)
-        for name, data in FILES.items():
-            open(os.path.join(DATA, name), "wb").write(data)
+        write_data(DATA, FILES)
         open(os.path.join(CRATE, "args"), "w").write("".join(f"{name}\n" for name in [*FILES, MISSING]))
     names = open(os.path.join(CRATE, "args")).read().split()
     text = "".join(line(name) for name in names if name != MISSING)
@@ -344,7 +275,7 @@ def main():
         return
     same("crates/inspect/stdout", open(os.path.join(CRATE, "stdout")).read(), text)
     with tempfile.TemporaryDirectory() as folder:
-        room = Room(folder)
+        room = Watched(folder, "inspect")
         for part in stored, long_records, drawn_records, names_of_files, troubles, open_files, words_of_its_own:
             part(room)
     print(f"inspect: {len(text.splitlines())} stored lines agree, and {room.runs} runs")
