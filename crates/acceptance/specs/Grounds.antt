@@ -260,8 +260,8 @@ module _ (bytes : List ℕ) where
   abbrev pub WrongEither : ℕ → Type 0
   WrongEither k = WrongByte EitherVersion bytes k
 
-  -- read_header, and read_record up to the count: among the first eight bytes that are there, then the length if that is under the header's, 8 in version 1 and 16 in
-  -- version 2, then the start, which is 0 where the kind is
+  -- read_header, and read_record up to the count: among the first eight bytes that are there, then the length if that is under the header's, 8 in
+  -- version 1 and 16 in version 2, then the start, which is 0 where the kind is
   pub data OfRecordHeader : ℕ → ℕ → Type 0 where
     wrong : {i : ℕ} → First (length bytes) WrongEither i → OfRecordHeader 9 i
     short : None (length bytes) WrongEither → length bytes < headLength bytes → OfRecordHeader 9 (length bytes)
