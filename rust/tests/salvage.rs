@@ -9,7 +9,7 @@ use independent::{greatest, Refusal};
 use ploegelster::boundary::SalvageAnswer;
 use shared::answers::Words;
 use shared::ends::{self, beyond, block_counts, last_block_counts, within};
-use shared::files::{end_of, most, sound_start, values, FILES, KINDS};
+use shared::files::{end_of, most, sound_start, values, with_two_header_bytes_changed, FILES, KINDS};
 use shared::lent::{Lent, Sides};
 use shared::random::Random;
 use shared::records::OUTSIDE;
@@ -310,23 +310,9 @@ fn every_header() {
 #[test]
 fn two_header_bytes_changed() {
     let mut tally = Tally::default();
-    for (version, kind, start) in FILES {
-        let sound = bytes_of(version, kind, start, &[1, -1]);
-        let header = sound.len() - 16;
-        for first in 0..header {
-            for second in first + 1..header {
-                for change in [1, 2, 0xFF] {
-                    for other in [1, 2, 0xFF] {
-                        let mut bytes = sound.clone();
-                        bytes[first] ^= change;
-                        bytes[second] ^= other;
-                        case(&mut tally, &bytes, bytes.len());
-                        case(&mut tally, &bytes[..=second], bytes.len());
-                    }
-                }
-            }
-        }
-    }
+    with_two_header_bytes_changed(|bytes, whole| {
+        case(&mut tally, bytes, whole);
+    });
     tally.ran(13_968, &[0, 2, 3, 9]);
 }
 

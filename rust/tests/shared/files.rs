@@ -3,7 +3,7 @@
 use super::ends::within;
 use super::random::Random;
 use super::END;
-use independent::file::{Kind, Version};
+use independent::file::{bytes_of, Kind, Version};
 
 /// Both kinds.
 pub const KINDS: [Kind; 2] = [Kind::Phase, Kind::Frequency];
@@ -41,6 +41,27 @@ pub fn sound_start(random: &mut Random, kind: Kind) -> i64 {
     match kind {
         Kind::Phase => 0,
         Kind::Frequency => random.pick(&within(END)),
+    }
+}
+
+/// Every file of two values with each two bytes of its header changed: whole, then cut behind the second of them; with the whole length beside both.
+pub fn with_two_header_bytes_changed(mut each: impl FnMut(&[u8], usize)) {
+    for (version, kind, start) in FILES {
+        let sound = bytes_of(version, kind, start, &[1, -1]);
+        let header = sound.len() - 16;
+        for first in 0..header {
+            for second in first + 1..header {
+                for change in [1, 2, 0xFF] {
+                    for other in [1, 2, 0xFF] {
+                        let mut bytes = sound.clone();
+                        bytes[first] ^= change;
+                        bytes[second] ^= other;
+                        each(&bytes, bytes.len());
+                        each(&bytes[..=second], bytes.len());
+                    }
+                }
+            }
+        }
     }
 }
 
