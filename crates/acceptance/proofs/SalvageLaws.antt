@@ -16,11 +16,12 @@ use Rattle.record.specs.declared.Refusal.{Refusal}
 use Rattle.phr.specs.File.{valueInRange, AreBytes}
 use Rattle.phr.specs.Reading.{kindOf, countOf, readRecordRefusal, readRecordAnswer}
 use Rattle.phr.proofs.AnswerCases.{recordBuffer}
+use Rattle.phr.proofs.FrontLaws.{count-stays}
 use Rattle.mending.specs.Salvage.{presentValues, firstBad, keptValues, salvagedFile, salvageRefusal, salvageAnswer}
 use Rattle.mending.proofs.KeptLaws.{first-bad-within, kept-length, kept-longest, salvaged-length, salvaged-within}
 use Rattle.mending.proofs.SalvageCases.{Salvageable, unrefused-salvageable}
 use Rattle.mending.proofs.Salvaged.{salvaged-read, salvaged-bytes, sound-unchanged, sound-unrefused, sound-answer}
-use Rattle.mending.proofs.LongerLaws.{count-stays, first-bad-stays, kept-stay, salvaged-stays, present-length-stays, refusal-stays}
+use Rattle.mending.proofs.LongerLaws.{first-bad-stays, kept-stay, salvaged-stays, present-length-stays, refusal-stays}
 use Rattle.acceptance.specs.Promises.{ReadsSalvaged, AddsUp, MetBy, ComesBack, LeavesMore}
 
 -- the buffer as salvage leaves it

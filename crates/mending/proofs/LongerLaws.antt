@@ -1,61 +1,20 @@
 -- What stands behind the longest file has no say: the same bytes with more behind them are refused alike and salvaged alike, with so much more left over.
-use mathlib.Core.Path.{_≡_, refl, sym, ap, ap₂, _∙_}
-use mathlib.Core.Bool.{Bool, true, false, cond}
-use mathlib.Core.List.{List, [], _∷_, _++_}
-use Prim.Native.Nat.{ℕ, suc, _+_, _-_, _*_, _≤_, _<_}
+use mathlib.Core.Path.{_≡_, refl, sym, ap, _∙_}
+use mathlib.Core.Bool.{Bool, true, false}
+use mathlib.Core.List.{List, _++_}
+use Prim.Native.Nat.{ℕ, _+_, _*_, _≤_}
 use native.Mathlib.Omega.{arith}
-use borrow.Author.Tests.{le-ltb, eqb-true, eqb-false}
+use borrow.Author.Tests.{eqb-true, eqb-false}
 use lib.Dec.{eqb}
-use lib.ListN.{length, getD, length-append, List·getD-append}
+use lib.ListN.{length, length-append}
 use Rattle.phr.specs.File.{mostValues}
-use Rattle.phr.specs.Reading.{soundUpTo, kindOf, countOf, testsOf, eitherTests, versionOf, headLength, startOf, headerRefusal, countedHeaderRefusal}
+use Rattle.phr.specs.Reading.{kindOf, countOf, headLength, countedHeaderRefusal}
+use Rattle.phr.proofs.FrontLaws.{kind-stays, count-stays, version-stays, head-stays, start-stays, header-stays}
 use Rattle.phr.proofs.ReadCases.{head-length-bounded, most-values-bounded, unrefused-counted-header}
-use Rattle.phr.proofs.ValueLaws.{value-in-front, front-values}
+use Rattle.phr.proofs.ValueLaws.{front-values}
 use Rattle.mending.specs.Salvage.{presentValues, firstBad, keptValues, salvagedFile, salvageRefusal}
 use Rattle.mending.proofs.KeptLaws.{presentCount}
 use Rattle.mending.proofs.SalvageCases.{header-refuses}
-
-sound-stays : (tests : List (ℕ → Bool)) (bytes rest : List ℕ) → length tests ≤ length bytes → soundUpTo tests (bytes ++ rest) ≡ soundUpTo tests bytes
-unfolding soundUpTo
-sound-stays [] bytes rest h = refl
-sound-stays (test ∷ tests) [] rest h = absurd (omega arith)
-sound-stays (test ∷ tests) (b ∷ bytes) rest h = ap (λ (n : ℕ). cond (test b) (suc n) 0) (sound-stays tests bytes rest (omega arith))
-
--- ---- the header
-
-module _ (bytes rest : List ℕ) (long : 16 ≤ length bytes) where
-  entry-stays : (i : ℕ) → i < length bytes → getD (bytes ++ rest) i 0 ≡ getD bytes i 0
-  entry-stays i h = List·getD-append bytes rest 0 i h
-
-  pub kind-stays : kindOf (bytes ++ rest) ≡ kindOf bytes
-  unfolding kindOf
-  kind-stays = entry-stays 5 (omega arith)
-
-  pub count-stays : countOf (bytes ++ rest) ≡ countOf bytes
-  unfolding countOf
-  count-stays = ap₂ (λ (a b : ℕ). a + 256 * b) (entry-stays 6 (omega arith)) (entry-stays 7 (omega arith))
-
-  version-stays : versionOf (bytes ++ rest) ≡ versionOf bytes
-  unfolding versionOf
-  version-stays = entry-stays 3 (omega arith)
-
-  head-stays : headLength (bytes ++ rest) ≡ headLength bytes
-  unfolding headLength
-  head-stays = rw version-stays
-
-  start-stays : startOf (bytes ++ rest) ≡ startOf bytes
-  unfolding startOf
-  start-stays = rw (version-stays, ← (value-in-front bytes rest 8 (omega arith)))
-
-  header-stays : countedHeaderRefusal (bytes ++ rest) ≡ countedHeaderRefusal bytes
-  unfolding countedHeaderRefusal headerRefusal eitherTests testsOf
-  header-stays =
-      let head = head-length-bounded bytes in
-      let there = le-ltb (length bytes) (headLength bytes) (omega arith) in
-      let there-too = le-ltb (length (bytes ++ rest)) (headLength bytes) (omega (arith, length-append bytes rest)) in
-      rw (sound-stays eitherTests bytes rest (omega arith), head-stays, there, there-too, kind-stays, start-stays, count-stays)
-
--- ---- the values
 
 module _ (bytes rest : List ℕ) (long : 262160 ≤ length bytes) where
   short : 16 ≤ length bytes

@@ -8,6 +8,7 @@ pub mod HeaderLaws
 pub mod ValueCases
 pub mod StartCases
 pub mod ReadCases
+pub mod FrontLaws
 pub mod WriteCases
 pub mod AnswerCases
 pub mod RoundTrip
