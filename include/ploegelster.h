@@ -4,11 +4,11 @@
  * The rules behind every entry stand in docs/RULES.md; what is proved of them in docs/STATEMENTS.md.
  *
  * Answers. Each answer carries a refusal's number and place. Number 0: the call was answered. Any other: every other value of the answer is nought, a
- * meter comes back as it was handed in, and no byte of a lent buffer has changed. Tests are made in the order in which an entry lists them, and the
+ * meter comes back as it was handed in, as do the totals of a sheet, and no byte of a lent buffer has changed. Tests are made in the order in which an entry lists them, and the
  * first that fails is the answer. Test the number before you pass a value on: the noughts beside a refusal, passed on, look like the best crystal.
  *
  *   1  too few samples, a count of 0, or M below 10 for bars                   place 0
- *   2  too many samples, readings, counts or M                                 place 0
+ *   2  too many samples, readings, counts or M, or a total above 2^63          place 0
  *   3  a value outside its range                                               index of the first, else 0
  *   4  a float reading that is not a number                                    its index
  *   5  factor outside its range                                                place 0
@@ -28,7 +28,8 @@
  *   - a buffer that the call may write overlaps no other buffer of the same call, and nobody else uses it before the call returns;
  *   - floating-point exceptions are masked, as they are where every C program starts. The modes are the caller's own: whichever way the machine rounds,
  *     and whether it takes subnormals for nought, as after linking with -ffast-math, every answer has the same bits.
- * The library keeps no state, takes no memory and calls nothing; calls on different buffers may be made from different threads.
+ * The library keeps no state, takes no memory and calls nothing but memcpy and memset, which every C library has; calls on different buffers may be
+ * made from different threads.
  *
  * Units. Samples are picoseconds, one a basic interval. The Allan and modified variances are in square picoseconds per basic interval squared, the
  * time variance in square picoseconds. Deviations are whole numbers of 2^-20 picoseconds (Allan: per basic interval): divide by
@@ -50,7 +51,7 @@ extern "C" {
 
 /** The version: the first number changes where a program that used the one before must be changed or compiled anew. */
 #define PLG_VERSION_MAJOR 5
-#define PLG_VERSION_MINOR 2
+#define PLG_VERSION_MINOR 3
 #define PLG_VERSION_PATCH 0
 
 /* ---- limits, ends allowed */
@@ -72,6 +73,13 @@ extern "C" {
 /** M of bars runs from the first to the second. */
 #define PLG_FEWEST_INTERVALS 10
 #define PLG_MOST_INTERVALS 32767
+/** A record on a sheet has at most so many samples, or readings. */
+#define PLG_MOST_SHEET_SAMPLES 4096
+#define PLG_MOST_SHEET_READINGS 4095
+/** A sheet's totals, handed in, are at most this: 2^63. */
+#define PLG_LARGEST_TOTAL (UINT64_C(1) << 63)
+/** So many bytes are always enough for the lines of a record on a sheet, and for the closing line. */
+#define PLG_SHEET_ROOM 4608
 /** So many units of a deviation are a picosecond: 2^20. */
 #define PLG_UNITS_A_PICOSECOND 1048576
 
@@ -178,6 +186,12 @@ typedef struct { uint64_t number, place, version, kind; int64_t start; uint64_t 
  * the new file's, and met, 1 where a value out of range was met, else 0.
  */
 typedef struct { uint64_t number, place, old_count, new_count, left_over, met; } plg_salvage_answer;
+
+/** The totals of a sheet: K and C added up over its lines. All noughts at first; after that, as the latest record's answer gives them. */
+typedef struct { uint64_t k, c; } plg_totals;
+
+/** The lines of a record on a sheet: how many bytes of text were written, and the totals with the record's; after a refusal those handed in. */
+typedef struct { uint64_t number, place, length; plg_totals totals; } plg_sheet_answer;
 
 /** The length in bytes of the file of so many values, in version 1. */
 #define PLG_FILE_LENGTH(count) (8 + 8 * (size_t)(count))
@@ -353,6 +367,34 @@ plg_count_answer plg_write_record(uint64_t kind, int64_t start, const int64_t *v
  * outside the sample range, at place 0). A wrong length and a value outside its range are no refusal here.
  */
 plg_salvage_answer plg_salvage(const uint8_t *bytes, size_t bytes_length, uint8_t *buffer, size_t buffer_length);
+
+/* ---- the sheet of all factors */
+
+/**
+ * Writes the lines of one record on a sheet, from the bytes of its file, of either version. The text has no nought at its end: it is as many bytes as the
+ * answer's length says. A frequency record is turned into phase first, from its start. There is a line for each factor m = 1, 2, 4, 8, .. while there are
+ * at least 2m+1 samples, with the columns
+ *
+ *   m, Allan variance, K, Allan deviation, time variance, C, time deviation, alpha
+ *
+ * and one space between. Variances are fractions, as 2/3. The three time columns each read r1 under 3m samples; alpha reads - under 6m samples, and r8
+ * where the time deviation at m is nought. The totals come back with K and C of all these lines more.
+ *
+ * A record that is refused as a whole has one line, as "refused 3 at 17", and leaves the totals as they are: for what plg_read_record refuses, though 2
+ * where the header's count is above PLG_MOST_SHEET_SAMPLES or PLG_MOST_SHEET_READINGS, and never 6; for 3 at the index of the first reading whose phase
+ * leaves the sample range; for 1 at place 0 under three samples. This is no refusal of the call, whose number is 0. Give no bytes, with a length of 0,
+ * for a file that cannot be opened or read: its line is "refused 9 at 0".
+ *
+ * The call takes some 70,000 bytes of the stack.
+ * Refuses 2 (a total that is handed in above PLG_LARGEST_TOTAL), 6 (buffer below the text's length; PLG_SHEET_ROOM bytes are always enough).
+ */
+plg_sheet_answer plg_sheet_record(const uint8_t *bytes, size_t bytes_length, plg_totals totals, uint8_t *text, size_t text_length);
+
+/**
+ * Writes the closing line of a sheet: "total", K and C, with one space between and a line feed at the end. The count is how many bytes.
+ * Refuses 6 (buffer below the line's length; PLG_SHEET_ROOM bytes are always enough).
+ */
+plg_count_answer plg_sheet_total(plg_totals totals, uint8_t *text, size_t text_length);
 
 #ifdef __cplusplus
 }

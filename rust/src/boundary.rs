@@ -2,8 +2,8 @@
 //! functions of this crate call these and nothing else.
 //!
 //! In every answer `number` is 0 where the call was answered, else the refusal's number, and `place` says where. Beside a refusal every other value
-//! is nought, a meter comes back as it was handed in, and no byte of a lent buffer has changed. What each function gives, and what it refuses in
-//! which order, stands in the header and with the safe function of the same name.
+//! is nought, a meter comes back as it was handed in, as do the totals of a sheet, and no byte of a lent buffer has changed. What each function
+//! gives, and what it refuses in which order, stands in the header and with the safe function of the same name.
 //!
 //! # Safety
 //!
@@ -288,6 +288,32 @@ pub struct SalvageAnswer {
     pub met: u64,
 }
 
+/// The totals of a sheet: K and C added up over its lines. At first all noughts; after that, as the latest record's answer gives them.
+#[must_use]
+#[repr(C)]
+#[derive(Clone, Copy, Debug, PartialEq, Eq)]
+pub struct Totals {
+    /// K added up.
+    pub k: u64,
+    /// C added up.
+    pub c: u64,
+}
+
+/// The lines of a record on a sheet.
+#[must_use]
+#[repr(C)]
+#[derive(Clone, Copy, Debug, PartialEq, Eq)]
+pub struct SheetAnswer {
+    /// 0, or the refusal's number.
+    pub number: u64,
+    /// Where it was refused.
+    pub place: u64,
+    /// How many bytes of text.
+    pub length: u64,
+    /// The totals with the record's; beside a refusal as they were handed in.
+    pub totals: Totals,
+}
+
 extern "C" {
     /// The Allan sum A at factor m, with its count K.
     pub fn plg_allan_sum(samples: *const i64, samples_length: usize, m: u64) -> SumAnswer;
@@ -346,4 +372,9 @@ extern "C" {
     pub fn plg_write_record(kind: u64, start: i64, values: *const i64, values_length: usize, buffer: *mut u8, buffer_length: usize) -> CountAnswer;
     /// The proper file that can still be had of a damaged one of either version, written to the buffer.
     pub fn plg_salvage(bytes: *const u8, bytes_length: usize, buffer: *mut u8, buffer_length: usize) -> SalvageAnswer;
+
+    /// The lines of one record on a sheet, from the bytes of its file, written as text.
+    pub fn plg_sheet_record(bytes: *const u8, bytes_length: usize, totals: Totals, text: *mut u8, text_length: usize) -> SheetAnswer;
+    /// The closing line of a sheet, written as text.
+    pub fn plg_sheet_total(totals: Totals, text: *mut u8, text_length: usize) -> CountAnswer;
 }

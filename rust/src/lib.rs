@@ -29,7 +29,7 @@
 
 #![deny(missing_docs)]
 
-// Every call of the library in this crate is sound: it keeps no state and calls nothing, and a slice meets all that it asks of a pointer and a
+// Every call of the library in this crate is sound: it keeps no state and calls nothing that does, and a slice meets all that it asks of a pointer and a
 // length. It is not null, aligned, good for its length and, if it is lent for writing, lent to nobody else. Floating-point exceptions are masked in
 // every Rust program.
 pub mod boundary;
@@ -39,14 +39,16 @@ mod meter;
 mod plot;
 mod records;
 mod refusals;
+mod sheet;
 mod sums;
 
-pub use boundary::{Meter, Wide};
+pub use boundary::{Meter, Totals, Wide};
 pub use file::{file_length, read_file, read_record, record_length, salvage, write_file, write_record, Contents, Kind, Record, Salvage};
 pub use meter::{meter_report, meter_sample, meter_start};
 pub use plot::{allan_dot, bars, drawn_number, noise_of_record, noise_type, time_dot, Bars, Dot, Noise};
 pub use records::{drift_figure, float_sums, frequency_from_phase, phase_from_frequency, phase_from_start, remove_drift, Drift, FloatSums};
 pub use refusals::{refusal_text, Ground, Refusal};
+pub use sheet::{sheet_record, sheet_total, Sheet};
 pub use sums::{allan_deviation, allan_fraction, allan_sum, modified_sum, time_deviation, time_fraction, Fraction, Sum, Sums};
 
 /// A record has at most this many samples, and a count that is handed in is at most this.
@@ -75,6 +77,18 @@ pub const FEWEST_INTERVALS: u64 = 10;
 
 /// Bars take at most this many intervals.
 pub const MOST_INTERVALS: u64 = 32_767;
+
+/// A phase record on a sheet has at most this many samples.
+pub const MOST_SHEET_SAMPLES: usize = 4_096;
+
+/// A frequency record on a sheet has at most this many readings.
+pub const MOST_SHEET_READINGS: usize = 4_095;
+
+/// A total of a sheet that is handed in is at most this.
+pub const LARGEST_TOTAL: u64 = 1 << 63;
+
+/// This many bytes are always enough for the lines of a record on a sheet, and for the closing line.
+pub const SHEET_ROOM: usize = 4_608;
 
 /// A deviation counts in this many parts of a picosecond: 2^20.
 pub const UNITS_A_PICOSECOND: u64 = 1 << 20;

@@ -9,7 +9,7 @@ use std::fmt::{self, Display, Formatter};
 pub enum Ground {
     /// 1: too few samples, a count of 0, or fewer than 10 intervals for bars. The place is 0.
     TooFew = 1,
-    /// 2: too many samples, readings, counts or intervals. The place is 0.
+    /// 2: too many samples, readings, counts or intervals, or a total of a sheet above 2^63. The place is 0.
     TooMany = 2,
     /// 3: a value outside its range. The place is the index of the first, else 0.
     OutOfRange = 3,

@@ -230,6 +230,31 @@ fn a_salvage_has_both_counts_and_what_is_left_over() {
     assert_eq!(offsets, [0, 8, 16, 24, 32, 40]);
 }
 
+/// The answer of a record's lines on a sheet is five words, of which the last two are the totals, as they are handed in.
+#[test]
+fn a_sheet_has_its_length_and_its_totals() {
+    let declared = of_header();
+    for line in [
+        "struct Totals { k: u64, c: u64 }",
+        "struct SheetAnswer { number: u64, place: u64, length: u64, totals: Totals }",
+        "fn plg_sheet_record(bytes: *const u8, bytes_length: usize, totals: Totals, text: *mut u8, text_length: usize) -> SheetAnswer",
+        "fn plg_sheet_total(totals: Totals, text: *mut u8, text_length: usize) -> CountAnswer",
+    ] {
+        assert!(declared.contains(line), "{line}");
+    }
+    assert_eq!(std::mem::size_of::<boundary::Totals>(), 2 * 8);
+    assert_eq!(std::mem::size_of::<boundary::SheetAnswer>(), 5 * 8);
+    assert_eq!(std::mem::align_of::<boundary::SheetAnswer>(), 8);
+    let offsets = [
+        std::mem::offset_of!(boundary::SheetAnswer, number),
+        std::mem::offset_of!(boundary::SheetAnswer, place),
+        std::mem::offset_of!(boundary::SheetAnswer, length),
+        std::mem::offset_of!(boundary::SheetAnswer, totals),
+    ];
+    assert_eq!(offsets, [0, 8, 16, 24]);
+    assert_eq!([std::mem::offset_of!(boundary::Totals, k), std::mem::offset_of!(boundary::Totals, c)], [0, 8]);
+}
+
 #[test]
 fn a_safe_function_for_each_entry() {
     let sources = [
@@ -237,6 +262,7 @@ fn a_safe_function_for_each_entry() {
         include_str!("../src/meter.rs"),
         include_str!("../src/plot.rs"),
         include_str!("../src/records.rs"),
+        include_str!("../src/sheet.rs"),
         include_str!("../src/sums.rs"),
     ];
     let text = sources.concat();
@@ -280,6 +306,10 @@ fn same_numbers() {
         ("LARGEST_DEVIATION", ploegelster::LARGEST_DEVIATION.into()),
         ("FEWEST_INTERVALS", ploegelster::FEWEST_INTERVALS.into()),
         ("MOST_INTERVALS", ploegelster::MOST_INTERVALS.into()),
+        ("MOST_SHEET_SAMPLES", ploegelster::MOST_SHEET_SAMPLES as i128),
+        ("MOST_SHEET_READINGS", ploegelster::MOST_SHEET_READINGS as i128),
+        ("LARGEST_TOTAL", ploegelster::LARGEST_TOTAL.into()),
+        ("SHEET_ROOM", ploegelster::SHEET_ROOM as i128),
         ("UNITS_A_PICOSECOND", ploegelster::UNITS_A_PICOSECOND.into()),
         ("ANSWERED", 0),
         ("TOO_FEW", Ground::TooFew.number().into()),

@@ -1,6 +1,6 @@
 //! What the wrapper adds to the library: grounds, kinds and types for numbers, and words for a refusal.
 
-use ploegelster::{Ground, Kind, Meter, Noise, Record, Refusal, Salvage, Wide};
+use ploegelster::{Ground, Kind, Meter, Noise, Record, Refusal, Salvage, Sheet, Totals, Wide, LARGEST_TOTAL, SHEET_ROOM};
 use std::error::Error;
 
 #[test]
@@ -84,6 +84,36 @@ fn what_cannot_be_salvaged_in_words() {
     let refusal = ploegelster::salvage(&bytes, &mut buffer).unwrap_err();
     assert_eq!(refusal.to_string(), "refused 9, bad bytes or a bad length in a file, at 8");
     assert_eq!(buffer, [7; 24]);
+}
+
+#[test]
+fn a_sheet_goes_on_with_its_totals() -> Result<(), Refusal> {
+    let mut file = [0; 32];
+    ploegelster::write_file(Kind::Phase, &[0, 1, 0], &mut file)?;
+    let mut text = [7; SHEET_ROOM];
+    let one = ploegelster::sheet_record(&file, Totals::NOUGHTS, &mut text)?;
+    assert_eq!((&text[..one.length], text[one.length]), (&b"1 2/1 1 1482910 2/3 1 856158 -\n"[..], 7));
+    assert_eq!(one.totals, Totals { k: 1, c: 1 });
+    // A record that is refused as a whole is no refusal of the call.
+    assert_eq!(ploegelster::sheet_record(&file[..31], one.totals, &mut text)?, Sheet { length: 16, totals: one.totals });
+    assert_eq!(&text[..16], b"refused 9 at 31\n");
+    let three = ploegelster::sheet_record(&file, one.totals, &mut text)?;
+    assert_eq!(ploegelster::sheet_total(three.totals, &mut text)?, 10);
+    assert_eq!(&text[..10], b"total 2 2\n");
+    Ok(())
+}
+
+#[test]
+fn what_a_sheet_is_refused_for_in_words() {
+    let mut text = [7; 14];
+    for totals in [Totals { k: LARGEST_TOTAL + 1, c: 0 }, Totals { k: 0, c: u64::MAX }] {
+        let refusal = ploegelster::sheet_record(&[], totals, &mut text).unwrap_err();
+        assert_eq!(refusal, Refusal { ground: Ground::TooMany, place: 0 });
+    }
+    let refusal = ploegelster::sheet_record(&[], Totals { k: LARGEST_TOTAL, c: LARGEST_TOTAL }, &mut text).unwrap_err();
+    assert_eq!(refusal.to_string(), "refused 6, a lent buffer or ring that is too short, at 0");
+    assert_eq!(ploegelster::sheet_total(Totals { k: 10, c: 1_000_000 }, &mut text).unwrap_err(), Refusal { ground: Ground::NoRoom, place: 0 });
+    assert_eq!(text, [7; 14]);
 }
 
 #[test]

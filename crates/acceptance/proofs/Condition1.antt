@@ -4,12 +4,14 @@
 -- stand in crates/laws/specs/Single.antt, the noughts in specs/Noughts.antt. When exactly a call is refused, by which number at which place, is told by
 -- Grounds.antt. No public function has a `requires`, and none is an exception.
 use mathlib.Core.Path.{_≡_, refl, sym, ap, _∙_}
-use Prim.Native.Nat.{ℕ, _-_, _*_, _%_, _≤_}
+use Prim.Native.Nat.{ℕ, _-_, _*_, _%_, _≤_, _<_}
+use native.Mathlib.Omega.{arith}
 use borrow.Fn.Kinds.{endedOf}
 use denote.Ref.{now}
 use denote.Triple.Clauses.{atExit}
 use lib.IntN.{ℤ, pos}
-use lib.ListN.{length, getD}
+use lib.ListN.{length, getD, take, List·getD-append}
+use lib.Seq.{length-take-le, getD-take}
 use Rattle.laws.specs.Lists.{at}
 use Rattle.laws.specs.Single.{Single, Always, Settled}
 use Rattle.wide.proofs.Unique.{sum-single, difference-single, at-most-single, product-low-single, product-single, size-single, with-square-single, divided-single, root-single, square-at-most-single}
@@ -123,6 +125,14 @@ use Rattle.phr.proofs.good_values.Kinds as good-values-kinds
 use Rattle.mending.proofs.Unique.{salvage-single}
 use Rattle.mending.proofs.salvage.Reads as salvage
 use Rattle.mending.proofs.salvage.Kinds as salvage-kinds
+use Rattle.decimal.proofs.Unique.{spelled-single}
+use Rattle.decimal.proofs.spelled.Reads as spelled
+use Rattle.decimal.proofs.spelled.Kinds as spelled-kinds
+use Rattle.listing.proofs.Unique.{sheet-record-single, sheet-total-single}
+use Rattle.listing.proofs.sheet_record.Reads as sheet-record
+use Rattle.listing.proofs.sheet_record.Kinds as sheet-record-kinds
+use Rattle.listing.proofs.sheet_total.Reads as sheet-total
+use Rattle.listing.proofs.sheet_total.Kinds as sheet-total-kinds
 use Rattle.ploegelster.proofs.Unique.{plg-allan-dot-single, plg-time-dot-single, plg-noise-type-single, plg-noise-of-record-single, plg-bars-single}
 use Rattle.ploegelster.specs.Boundary.{toldDot, toldNoise, barsByAlpha}
 use Rattle.ploegelster.proofs.Told.{type-by-alpha, alpha-of-none}
@@ -142,6 +152,8 @@ use Rattle.ploegelster.proofs.files.plg_write_file.Reads as plg-write-file
 use Rattle.ploegelster.proofs.files.plg_read_record.Reads as plg-read-record
 use Rattle.ploegelster.proofs.files.plg_write_record.Reads as plg-write-record
 use Rattle.ploegelster.proofs.files.plg_salvage.Reads as plg-salvage
+use Rattle.ploegelster.proofs.sheets.plg_sheet_record.Reads as plg-sheet-record
+use Rattle.ploegelster.proofs.sheets.plg_sheet_total.Reads as plg-sheet-total
 use Rattle.ploegelster.proofs.drawing.plg_drawn_number.Reads as plg-drawn-number
 use Rattle.ploegelster.proofs.drawing.plg_allan_dot.Reads as plg-allan-dot
 use Rattle.ploegelster.proofs.drawing.plg_allan_dot.Kinds as plg-allan-dot-kinds
@@ -158,7 +170,7 @@ use Rattle.ploegelster.proofs.drawing.plg_noise_of_record.Kinds as plg-noise-of
 use Rattle.ploegelster.proofs.drawing.plg_bars.Reads as plg-bars
 use Rattle.ploegelster.proofs.drawing.plg_bars.Kinds as plg-bars-kinds
 use Rattle.acceptance.specs.Noughts.{Refused, SumNought, PartsNought, PartsApart, DotNought, BarsNought}
-use Rattle.acceptance.proofs.NoughtLaws.{count-noughts, past-the-count, read-noughts, past-the-values, record-noughts, past-the-record, sum-noughts, float-noughts, float-part-noughts, past-the-samples, report-noughts, report-part-noughts, drift-noughts, meter-as-it-came, ring-as-it-came, other-slots-unchanged, own-slot-written, drawn-noughts, dot-noughts, told-dot-noughts, fraction-noughts, deviation-noughts, alpha-nought, bars-noughts, alpha-bars-noughts, header-noughts, salvage-noughts, past-the-salvaged}
+use Rattle.acceptance.proofs.NoughtLaws.{count-noughts, past-the-count, read-noughts, past-the-values, record-noughts, past-the-record, sum-noughts, float-noughts, float-part-noughts, past-the-samples, report-noughts, report-part-noughts, drift-noughts, meter-as-it-came, ring-as-it-came, other-slots-unchanged, own-slot-written, drawn-noughts, dot-noughts, told-dot-noughts, fraction-noughts, deviation-noughts, alpha-nought, bars-noughts, alpha-bars-noughts, header-noughts, salvage-noughts, past-the-salvaged, text-noughts, past-the-text}
 
 -- ---- wide: whole numbers of 128 bits; nothing is refused
 
@@ -415,6 +427,38 @@ pub salvage-past : Always 2 salvage-kinds.ps salvage-kinds.r salvage.Post
     (i e : ℕ) → length bytes - z .«left_over» ≤ i → getD left i e ≡ getD buffer i e)
 salvage-past κs args z w is = rw (is .0, is .1) (past-the-salvaged (now (args .0)) (now (args .1 .0)))
 
+-- ---- decimal, listing
+
+-- it refuses nothing
+pub spelled-one-answer : Single 1 spelled-kinds.ps spelled-kinds.r spelled.Post
+spelled-one-answer = spelled-single
+
+-- the digits stand at the end of the array, which has 39 bytes; what stands before them is as it was
+pub spelled-past : Always 1 spelled-kinds.ps spelled-kinds.r spelled.Post
+    (λ κs args z w. let digits = now (args .1 .0) in length digits ≡ 39 → (i e : ℕ) → i < z → getD (w .1 .0) i e ≡ getD digits i e)
+spelled-past κs args z w is long i e h =
+    let digits = now (args .1 .0) in
+    let front = length-take-le z digits (omega (arith, is .0)) in
+    rw (is .1) (List·getD-append (take z digits) _ e i (omega (arith, front)) ∙ getD-take z digits i e h)
+
+-- the totals come back as they were handed in
+pub sheet-record-settled : Settled 2 sheet-record-kinds.ps sheet-record-kinds.r sheet-record.Post
+    (λ κs args z w. let totals = args .1 .0 in let buffer = now (args .1 .1 .0) in let left = w .1 .1 .0 in
+    Refused (z .number) → (z .length ≡ 0) × (z .totals ≡ totals) × (left ≡ buffer))
+sheet-record-settled = (sheet-record-single, λ κs args z w is. rw (is .0, is .1) (text-noughts _ _ _))
+
+pub sheet-record-past : Always 2 sheet-record-kinds.ps sheet-record-kinds.r sheet-record.Post
+    (λ κs args z w. let buffer = now (args .1 .1 .0) in let left = w .1 .1 .0 in (i e : ℕ) → z .length ≤ i → getD left i e ≡ getD buffer i e)
+sheet-record-past κs args z w is = rw (is .0, is .1) (past-the-text (now (args .0)) (args .1 .0) (now (args .1 .1 .0)))
+
+pub sheet-total-settled : Settled 1 sheet-total-kinds.ps sheet-total-kinds.r sheet-total.Post
+    (λ κs args z w. let buffer = now (args .1 .0) in let left = w .1 .0 in Refused (z .number) → (z .count ≡ 0) × (left ≡ buffer))
+sheet-total-settled = (sheet-total-single, λ κs args z w is. rw (is .0, is .1) (count-noughts _ _ _ _))
+
+pub sheet-total-past : Always 1 sheet-total-kinds.ps sheet-total-kinds.r sheet-total.Post
+    (λ κs args z w. let buffer = now (args .1 .0) in let left = w .1 .0 in (i e : ℕ) → z .count ≤ i → getD left i e ≡ getD buffer i e)
+sheet-total-past κs args z w is = rw (is .0, is .1) (past-the-count _ _ _ _ refl)
+
 -- ---- ploegelster, the library that an app links: each contract is the entry's own (NAME-is), so that all that is said of the entry holds of it
 
 pub plg-allan-sum-is : plg-allan-sum.Post ≡ allan-sum.Post
@@ -535,3 +579,9 @@ plg-write-record-is = refl
 
 pub plg-salvage-is : plg-salvage.Post ≡ salvage.Post
 plg-salvage-is = refl
+
+pub plg-sheet-record-is : plg-sheet-record.Post ≡ sheet-record.Post
+plg-sheet-record-is = refl
+
+pub plg-sheet-total-is : plg-sheet-total.Post ≡ sheet-total.Post
+plg-sheet-total-is = refl

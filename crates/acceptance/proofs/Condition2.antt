@@ -1,9 +1,9 @@
 -- Condition 2: the published figure, exactly. Each theorem speaks of every result that the function's own contract allows (Always,
 -- crates/laws/specs/Single.antt) where the call is answered, which Grounds.antt tells exactly; what is promised of a result stands in
 -- specs/Promises.antt. The exported functions have the same contracts (Condition1.antt, NAME-is), or tell the same answers in numbers (NAME-tells).
-use mathlib.Core.Path.{_≡_, refl, sym, _∙_}
+use mathlib.Core.Path.{_≡_, refl, sym, ap, _∙_}
 use mathlib.Core.Bool.{Bool}
-use mathlib.Core.List.{List, [], _∷_, _++_}
+use mathlib.Core.List.{List, [], _∷_, _++_, map}
 use mathlib.Core.Logic.{_⊎_}
 use Prim.Native.Nat.{ℕ, _+_, _-_, _*_, _/_, _%_, _^_, _≤_, _<_}
 use native.Mathlib.Omega.{arith}
@@ -13,7 +13,8 @@ use lib.Ieee.{nan}
 use lib.Ieee.Exact.{HasValue}
 use lib.Ieee.Positive.{positive}
 use lib.IntN.{ℤ, pos, negsuc, _+ℤ_, _-ℤ_, _*ℤ_}
-use lib.ListN.{length, getD, take}
+use lib.ListN.{length, getD, take, drop}
+use lib.Seq.{length-take-le, drop-at}
 use Rattle.laws.specs.Greatest.{Greatest}
 use Rattle.laws.specs.Lists.{at}
 use Rattle.laws.specs.Nearest.{withSign}
@@ -95,9 +96,26 @@ use Rattle.phr.proofs.write_record.Kinds as write-record-kinds
 use Rattle.mending.specs.Salvage.{keptValues, salvagedFile}
 use Rattle.mending.proofs.salvage.Reads as salvage
 use Rattle.mending.proofs.salvage.Kinds as salvage-kinds
+use Rattle.decimal.specs.Decimal.{decimal, Decimal, numbersIn}
+use Rattle.decimal.proofs.DigitLaws.{wide-below, decimal-within}
+use Rattle.decimal.proofs.Meaning.{decimal-is}
+use Rattle.decimal.proofs.spelled.Reads as spelled
+use Rattle.decimal.proofs.spelled.Kinds as spelled-kinds
+use Rattle.record.specs.declared.CountAnswer.{CountAnswer}
+use Rattle.listing.specs.Columns.{line}
+use Rattle.listing.specs.Sheet.{sheet, textRefusal, textAnswer}
+use Rattle.listing.specs.declared.SheetAnswer.{SheetAnswer}
+use Rattle.listing.proofs.LongerLaws.{text-stays, totals-stay}
+use Rattle.listing.proofs.RoomLaws.{text-within, total-within}
+use Rattle.listing.proofs.sheet_record.Reads as sheet-record
+use Rattle.listing.proofs.sheet_record.Kinds as sheet-record-kinds
+use Rattle.listing.proofs.sheet_total.Reads as sheet-total
+use Rattle.listing.proofs.sheet_total.Kinds as sheet-total-kinds
 use Rattle.acceptance.specs.Figures.{sumIs, fractionIs, squares}
+use Rattle.acceptance.specs.Calls.{Printed}
 use Rattle.acceptance.specs.Grounds
-use Rattle.acceptance.specs.Promises.{SumOf, PartsOf, Changed, FractionOf, BackAndForth, GivenBack, DotOf, ToldAs, TypeByTable, NoiseOf, HalfOf, BarsOf, DriftRemoved, ConstantDrift, ReadsBack, RecordReadsBack, ReadAlike, ReadsSalvaged, AddsUp, MetBy, ComesBack, LeavesMore}
+use Rattle.acceptance.specs.Grounds.{OfText, OfTotal}
+use Rattle.acceptance.specs.Promises.{SumOf, PartsOf, Changed, FractionOf, BackAndForth, GivenBack, DotOf, ToldAs, TypeByTable, NoiseOf, HalfOf, BarsOf, DriftRemoved, ConstantDrift, ReadsBack, RecordReadsBack, ReadAlike, ReadsSalvaged, AddsUp, MetBy, ComesBack, LeavesMore, TextOf, TotalsOf}
 use Rattle.acceptance.proofs.Grounding.{answered-none}
 use Rattle.acceptance.proofs.RecordGrounds.{record-agrees, multiple-agrees}
 use Rattle.acceptance.proofs.FigureGrounds.{fraction-agrees, deviation-agrees, dotted-none}
@@ -108,9 +126,10 @@ use Rattle.acceptance.proofs.RecordTypeGrounds.{record-type-agrees}
 use Rattle.acceptance.proofs.FileGrounds.{writing-agrees, reading-agrees}
 use Rattle.acceptance.proofs.VersionGrounds.{record-writing-agrees, record-reading-agrees}
 use Rattle.acceptance.proofs.SalvageGrounds.{salvage-agrees}
-use Rattle.acceptance.proofs.Grounds.{allan-sum-grounds, modified-sum-grounds, allan-fraction-grounds, time-fraction-grounds, allan-deviation-grounds, time-deviation-grounds, phase-from-frequency-grounds, phase-from-start-grounds, frequency-from-phase-grounds, drift-figure-grounds, remove-drift-grounds, float-sums-grounds, drawn-number-grounds, allan-dot-grounds, time-dot-grounds, noise-type-grounds, noise-of-record-grounds, plg-noise-type-grounds, plg-noise-of-record-grounds, bars-grounds, plg-bars-grounds, read-file-grounds, write-file-grounds, read-record-grounds, write-record-grounds, salvage-grounds}
+use Rattle.acceptance.proofs.Grounds.{allan-sum-grounds, modified-sum-grounds, allan-fraction-grounds, time-fraction-grounds, allan-deviation-grounds, time-deviation-grounds, phase-from-frequency-grounds, phase-from-start-grounds, frequency-from-phase-grounds, drift-figure-grounds, remove-drift-grounds, float-sums-grounds, drawn-number-grounds, allan-dot-grounds, time-dot-grounds, noise-type-grounds, noise-of-record-grounds, plg-noise-type-grounds, plg-noise-of-record-grounds, bars-grounds, plg-bars-grounds, read-file-grounds, write-file-grounds, read-record-grounds, write-record-grounds, salvage-grounds, sheet-record-grounds, sheet-total-grounds}
 use Rattle.acceptance.proofs.PromiseLaws.{allan-sum-of, modified-sum-of, phases-from-of, phases-left, phases-of, differences-of, differences-left, back-and-forth, record-given-back, readings-given-back, square-of-half, drift-of, divisor-some, result-of, drift-removed, one-result, same-slope, constant-slope, line-left, float-sums-of, one-nearest, unchanged-samples-of, whole-samples-of, reads-files-alone, reads-every-file, count-of, output-left, file-left, one-value-unrefused, written-proper, reads-back, reads-records-alone, reads-every-record, file-from-left, record-reads-back, reads-alike, version-is-1, drawn-of, dot-told, allan-dot-of, time-dot-of, allan-fraction-of, time-fraction-of, allan-deviation-of, time-deviation-of, allan-deviation-of-record, time-deviation-of-record, type-of, noise-of, bars-of, half-below-deviation, low-above-nought}
 use Rattle.acceptance.proofs.SalvageLaws.{new-count-is, salvaged-left, adds-up, met-by, reads-salvaged, comes-back, salvaged-comes-back, leaves-more}
+use Rattle.acceptance.proofs.SheetLaws.{text-of, totals-of, text-written, totals-handed-on, total-written, line-read-back, total-read-back, printed-is}
 use Rattle.acceptance.proofs.Figures.{starred-figures}
 
 -- ---- the published sums: x the record, N its length, m the factor
@@ -598,6 +617,73 @@ pub longer-file-leaves-more : Always 2 salvage-kinds.ps salvage-kinds.r salvage.
     (λ κs′ args′ z′ w′. (rest : List ℕ) → now (args′ .0) ≡ bytes ++ rest → now (args′ .1 .0) ≡ buffer → LeavesMore (length rest) z z′ (w .1 .0) (w′ .1 .0)))
 longer-file-leaves-more κs args z w is long κs′ args′ z′ w′ is′ rest same room =
     rw (is .0, is .1, is′ .0, is′ .1, same, room) (leaves-more (now (args .0)) rest long (now (args .1 .0)))
+
+-- ---- the sheet of all factors
+
+-- The text is the line of the record's refusal where it is refused as a whole, else the lines of all its factors.
+pub sheet-text : Always 2 sheet-record-kinds.ps sheet-record-kinds.r sheet-record.Post
+    (λ κs args z w. z .number ≡ 0 → TextOf (now (args .0)) (take (z .length) (w .1 .1 .0)))
+sheet-text κs args z w is answered =
+    let here = sym (ap (λ (a : SheetAnswer). a .number) (is .0)) ∙ answered in
+    rw (is .0, is .1, text-written (now (args .0)) (args .1 .0) (now (args .1 .1 .0)) here) (text-of (now (args .0)))
+
+-- The totals have K and C of all these lines more; a record that is refused as a whole is not in them.
+pub sheet-totals : Always 2 sheet-record-kinds.ps sheet-record-kinds.r sheet-record.Post (λ κs args z w. z .number ≡ 0 → TotalsOf (now (args .0)) (args .1 .0) (z .totals))
+sheet-totals κs args z w is answered =
+    let here = sym (ap (λ (a : SheetAnswer). a .number) (is .0)) ∙ answered in
+    rw (is .0, totals-handed-on (now (args .0)) (args .1 .0) (now (args .1 .1 .0)) here) (totals-of (now (args .0)) (args .1 .0))
+
+-- Whatever files the calls are made for, one after the other with the totals handed on, and then the closing line: what they write is the whole sheet.
+pub whole-sheet : {files : List (List ℕ)} {text : List ℕ} → Printed (record { k = 0; c = 0 }) files text → text ≡ sheet files
+unfolding sheet
+whole-sheet printed = printed-is printed
+
+-- Room for 4,608 bytes is always enough, for the lines of a record and for the closing line.
+pub sheet-room : Always 2 sheet-record-kinds.ps sheet-record-kinds.r sheet-record.Post (λ κs args z w. 4608 ≤ length (now (args .1 .1 .0)) → z .number ≡ 6 → ⊥)
+sheet-room κs args z w is room six =
+    no-room-row (sheet-record-grounds κs args z w is .refused (λ zero. omega (arith, zero, six))) six
+  where
+    no-room-row : {n p : ℕ} → OfText (now (args .0)) (args .1 .0) (length (now (args .1 .1 .0))) n p → n ≡ 6 → ⊥
+    no-room-row (Grounds.large over) e = omega arith
+    no-room-row (Grounds.no-room k c h) e = omega (arith, text-within (now (args .0)))
+
+pub total-room : Always 1 sheet-total-kinds.ps sheet-total-kinds.r sheet-total.Post (λ κs args z w. 4608 ≤ length (now (args .1 .0)) → z .number ≡ 0)
+total-room κs args z w is room =
+    sheet-total-grounds κs args z w is .no-row (λ n p row. no-room-row row) .0
+  where
+    no-room-row : {n p : ℕ} → OfTotal (args .0) (length (now (args .1 .0))) n p → ⊥
+    no-room-row (Grounds.no-room h) = omega (arith, total-within (args .0))
+
+-- What stands behind 32,785 bytes of a file changes nothing: so a reader may keep that many.
+pub longer-file-same-text : Always 2 sheet-record-kinds.ps sheet-record-kinds.r sheet-record.Post
+    (λ κs args z w. let bytes = now (args .0) in
+    32785 ≤ length bytes → Always 2 sheet-record-kinds.ps sheet-record-kinds.r sheet-record.Post
+    (λ κs′ args′ z′ w′. (rest : List ℕ) → now (args′ .0) ≡ bytes ++ rest → args′ .1 .0 ≡ args .1 .0 → now (args′ .1 .1 .0) ≡ now (args .1 .1 .0) → (z′ ≡ z) × (w′ .1 .1 .0 ≡ w .1 .1 .0)))
+unfolding textAnswer textRefusal
+longer-file-same-text κs args z w is long κs′ args′ z′ w′ is′ rest more totals buffer =
+    rw (is .0, is .1, is′ .0, is′ .1, more, totals, buffer, text-stays (now (args .0)) rest long, totals-stay (now (args .0)) rest long (args .1 .0)) (refl, refl)
+
+-- ---- decimal has one meaning
+
+-- What is spelled is some digits and nothing else, with no nought in front of others, that make the number.
+pub spelled-is-decimal : Always 1 spelled-kinds.ps spelled-kinds.r spelled.Post
+    (λ κs args z w. let n = args .0 in n .hi < 2 ^ 64 → n .lo < 2 ^ 64 → length (now (args .1 .0)) ≡ 39 → Decimal (value n) (drop z (w .1 .0)))
+spelled-is-decimal κs args z w is high low long =
+    let n = args .0 in
+    let before = now (args .1 .0) in
+    let within = decimal-within (value n) in
+    let front : length (take z before) ≡ z = length-take-le z before (omega (arith, is .0)) in
+    rw (is .1, drop-at (take z before) (decimal (value n)) z front) (decimal-is (value n) (wide-below n high low))
+
+-- A line of numbers below 2^128 read back gives the numbers, and the closing line gives its totals.
+pub numbers-come-back : (ns : List ℕ) → ((i : ℕ) → i < length ns → getD ns i 0 < 2 ^ 128) → numbersIn (line (map decimal ns)) ≡ ns
+numbers-come-back = line-read-back
+
+pub totals-come-back : Always 1 sheet-total-kinds.ps sheet-total-kinds.r sheet-total.Post
+    (λ κs args z w. let t = args .0 in t .k < 2 ^ 128 → t .c < 2 ^ 128 → z .number ≡ 0 → numbersIn (take (z .count) (w .1 .0)) ≡ t .k ∷ t .c ∷ [])
+totals-come-back κs args z w is k c answered =
+    let here = sym (ap (λ (a : CountAnswer). a .number) (is .0)) ∙ answered in
+    rw (is .0, is .1, total-written (args .0) (now (args .1 .0)) here) (total-read-back (args .0) k c)
 
 -- ---- the starred record 0 1 4 9 16 25 at m = 1: refusing everything, or giving 0/1 always, is shut out
 

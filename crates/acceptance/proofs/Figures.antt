@@ -17,13 +17,17 @@ use Rattle.sums.specs.Published.{difference, allanCount, allanSum, allanDenomin
 use Rattle.variances.specs.Fractions.{euclid, gcd}
 use Rattle.variances.specs.Deviations.{deviation}
 use Rattle.sums.specs.Answers.{sumAnswer, allanSumAnswer, modifiedSumAnswer}
-use Rattle.variances.specs.Answers.{figureRefusal, fractionAnswer, allanFractionAnswer, timeFractionAnswer, deviationAnswer, allanDeviationAnswer}
+use Rattle.variances.specs.Answers.{figureRefusal, fractionAnswer, allanFractionAnswer, timeFractionAnswer, deviationAnswer, allanDeviationAnswer, timeDeviationAnswer}
 use Rattle.plot.specs.Drawn.{drawnNumber}
-use Rattle.noise.specs.Noise.{alphaOf, kappaOf, noiseOf, noiseRefusal, noiseAnswer, toldAlpha, typeAnswer}
+use Rattle.noise.specs.Noise.{alphaOf, kappaOf, noiseOf, noiseRefusal, noiseAnswer, toldAlpha, typeAnswer, timeDeviation, recordTypeAnswer}
 use Rattle.noise.specs.Bars.{barWidth, barHalf, barsRefusal, barOf, barsAnswer}
-use Rattle.phr.specs.Bytes.{lowFirst, twosComplement, valuesBytes}
+use Rattle.phr.specs.Bytes.{lowFirst, fromLowFirst, twosComplement, signed, valuesBytes, valueAt}
 use Rattle.phr.specs.File.{firstEight, header, fileOf, headerFrom, fileFrom, mostValues, valueInRange, startFits, valuesRefusal}
+use Rattle.phr.specs.Reading.{testsOf, eitherTests, soundUpTo, kindOf, countOf, versionOf, headLength, startOf, recordValues, countRefusal, headerRefusal, readRecordRefusal}
 use Rattle.phr.specs.Writing.{roomRefusal, writeRefusal, writeRecordRefusal}
+use Rattle.decimal.specs.Decimal.{digitsWithin, decimal}
+use Rattle.listing.specs.Columns.{line, signedDecimal, toldOr, fractionColumn, countColumn, deviationColumn, alphaColumn, factorLine}
+use Rattle.listing.specs.Sheet.{factorsFrom, factors, linesOf, allanCounts, modifiedCounts, sheetMost, samplesOf, readerRefusal, phasesRefusal, sheetRefusal, refusedLine, factorsOf, recordText, totalsWith, totalLine, sheetFrom, sheet}
 use Rattle.sums.proofs.allan_sum.Reads as allan-sum
 use Rattle.sums.proofs.allan_sum.Kinds as allan-sum-kinds
 use Rattle.sums.proofs.modified_sum.Reads as modified-sum
@@ -53,7 +57,7 @@ use Rattle.phr.proofs.write_record.Kinds as write-record-kinds
 use Rattle.acceptance.specs.Figures.{Starred}
 
 pub starred-figures : Starred
-unfolding sum sumℤ tabulate firstFailing bitByBit inRange rangeRefusal sizeRefusal recordRefusal countAnswer bufferLeft phasesFrom phases firstLeaving phaseRefusal phaseRefusalFrom driftH driftP driftR driftRefusal driftAnswer floored withoutDrift removalRefusal difference allanCount allanSum allanDenominator windowSum modifiedCount modifiedSum timeDenominator euclid gcd deviation sumAnswer allanSumAnswer modifiedSumAnswer figureRefusal fractionAnswer allanFractionAnswer timeFractionAnswer deviationAnswer allanDeviationAnswer alphaOf kappaOf noiseOf noiseRefusal noiseAnswer toldAlpha typeAnswer barWidth barHalf barsRefusal barOf barsAnswer drawnNumber round lowFirst twosComplement valuesBytes firstEight header fileOf headerFrom fileFrom mostValues valueInRange startFits valuesRefusal roomRefusal writeRefusal writeRecordRefusal
+unfolding sum sumℤ tabulate firstFailing bitByBit inRange rangeRefusal sizeRefusal recordRefusal countAnswer bufferLeft phasesFrom phases firstLeaving phaseRefusal phaseRefusalFrom driftH driftP driftR driftRefusal driftAnswer floored withoutDrift removalRefusal difference allanCount allanSum allanDenominator windowSum modifiedCount modifiedSum timeDenominator euclid gcd deviation sumAnswer allanSumAnswer modifiedSumAnswer figureRefusal fractionAnswer allanFractionAnswer timeFractionAnswer deviationAnswer allanDeviationAnswer alphaOf kappaOf noiseOf noiseRefusal noiseAnswer toldAlpha typeAnswer barWidth barHalf barsRefusal barOf barsAnswer drawnNumber round lowFirst twosComplement valuesBytes firstEight header fileOf headerFrom fileFrom mostValues valueInRange startFits valuesRefusal roomRefusal writeRefusal writeRecordRefusal fromLowFirst signed valueAt testsOf eitherTests soundUpTo kindOf countOf versionOf headLength startOf recordValues countRefusal headerRefusal readRecordRefusal timeDeviationAnswer timeDeviation recordTypeAnswer digitsWithin decimal line signedDecimal toldOr fractionColumn countColumn deviationColumn alphaColumn factorLine factorsFrom factors linesOf allanCounts modifiedCounts sheetMost samplesOf readerRefusal phasesRefusal sheetRefusal refusedLine factorsOf recordText totalsWith totalLine sheetFrom sheet
 starred-figures = record {
   squares-at-1 = (refl, refl);
   squares-deviation = refl;
@@ -78,6 +82,7 @@ starred-figures = record {
   past-the-bound = (refl, refl);
   file = (refl, refl);
   file-from = (refl, refl);
+  squares-sheet = refl;
 }
 
 -- ---- whatever an entry's contract allows is what the rows compute

@@ -70,6 +70,10 @@ use Rattle.phr.proofs.read_header.Reads as read-header
 use Rattle.phr.proofs.read_header.Kinds as read-header-kinds
 use Rattle.mending.proofs.salvage.Reads as salvage
 use Rattle.mending.proofs.salvage.Kinds as salvage-kinds
+use Rattle.listing.proofs.sheet_record.Reads as sheet-record
+use Rattle.listing.proofs.sheet_record.Kinds as sheet-record-kinds
+use Rattle.listing.proofs.sheet_total.Reads as sheet-total
+use Rattle.listing.proofs.sheet_total.Kinds as sheet-total-kinds
 use Rattle.ploegelster.specs.Boundary.{toldDot, toldNoise}
 use Rattle.ploegelster.proofs.drawing.plg_noise_type.Reads as plg-noise-type
 use Rattle.ploegelster.proofs.drawing.plg_noise_type.Kinds as plg-noise-type-kinds
@@ -81,7 +85,7 @@ use Rattle.ploegelster.proofs.drawing.plg_time_dot.Reads as plg-time-dot
 use Rattle.ploegelster.proofs.drawing.plg_time_dot.Kinds as plg-time-dot-kinds
 use Rattle.ploegelster.proofs.drawing.plg_bars.Reads as plg-bars
 use Rattle.ploegelster.proofs.drawing.plg_bars.Kinds as plg-bars-kinds
-use Rattle.acceptance.specs.Grounds.{Grounded, OfRange, OfSize, OfRecord, OfFraction, OfDeviation, OfDot, OfPhases, OfPhasesFrom, OfDifferences, OfDrift, OfRemoval, OfReadings, OfRecordType, OfDrawn, OfType, OfBars, OfStart, OfSample, OfReport, OfFile, OfRecordHeader, OfRecordFile, OfSalvage, OfWriting, OfWritingFrom}
+use Rattle.acceptance.specs.Grounds.{Grounded, OfRange, OfSize, OfRecord, OfFraction, OfDeviation, OfDot, OfPhases, OfPhasesFrom, OfDifferences, OfDrift, OfRemoval, OfReadings, OfRecordType, OfDrawn, OfType, OfBars, OfStart, OfSample, OfReport, OfFile, OfRecordHeader, OfRecordFile, OfSalvage, OfWriting, OfWritingFrom, OfText, OfTotal}
 use Rattle.acceptance.proofs.Grounding.{refusal-grounded}
 use Rattle.acceptance.proofs.RecordGrounds.{size-agrees, range-agrees, record-agrees, multiple-agrees, sum-grounded}
 use Rattle.acceptance.proofs.FigureGrounds.{fraction-agrees, deviation-agrees, fraction-grounded, deviation-grounded, dot-grounded}
@@ -93,6 +97,7 @@ use Rattle.acceptance.proofs.MeterGrounds.{start-grounded, sample-groun
 use Rattle.acceptance.proofs.FileGrounds.{reading-grounded, writing-agrees}
 use Rattle.acceptance.proofs.VersionGrounds.{header-grounded, record-reading-grounded, record-writing-agrees}
 use Rattle.acceptance.proofs.SalvageGrounds.{salvage-grounded}
+use Rattle.acceptance.proofs.SheetGrounds.{text-grounded, total-grounded}
 
 -- ---- record
 
@@ -255,6 +260,16 @@ read-header-grounds κs args z w is = rw is (header-grounded _ 0)
 pub salvage-grounds : Always 2 salvage-kinds.ps salvage-kinds.r salvage.Post
     (λ κs args z w. let bytes = now (args .0) in let buffer = now (args .1 .0) in Grounded (OfSalvage bytes (length buffer)) (z .number) (z .place))
 salvage-grounds κs args z w is = rw (is .0) (salvage-grounded _ _)
+
+-- ---- listing
+
+pub sheet-record-grounds : Always 2 sheet-record-kinds.ps sheet-record-kinds.r sheet-record.Post
+    (λ κs args z w. let bytes = now (args .0) in let totals = args .1 .0 in let buffer = now (args .1 .1 .0) in Grounded (OfText bytes totals (length buffer)) (z .number) (z .place))
+sheet-record-grounds κs args z w is = rw (is .0) (text-grounded _ _ _)
+
+pub sheet-total-grounds : Always 1 sheet-total-kinds.ps sheet-total-kinds.r sheet-total.Post
+    (λ κs args z w. let totals = args .0 in let buffer = now (args .1 .0) in Grounded (OfTotal totals (length buffer)) (z .number) (z .place))
+sheet-total-grounds κs args z w is = rw (is .0) (total-grounded _ _ _)
 
 -- ---- ploegelster: the functions whose contract is not the entry's own
 

@@ -8,12 +8,14 @@ pub mod SalvageGrounds
 pub mod FigureGrounds
 pub mod BufferGrounds
 pub mod ReadingGrounds
+pub mod SheetGrounds
 pub mod RecordTypeGrounds
 pub mod Grounds
 pub mod Figures
 pub mod NoughtLaws
 pub mod PromiseLaws
 pub mod SalvageLaws
+pub mod SheetLaws
 pub mod AnyCalls
 pub mod LatestOnly
 pub mod Condition1

@@ -39,6 +39,9 @@ use Rattle.phr.specs.declared.RecordAnswer.{RecordAnswer}
 use Rattle.mending.specs.Salvage.{salvagedFile, salvageRefusal, salvageAnswer}
 use Rattle.mending.proofs.KeptLaws.{salvaged-within}
 use Rattle.mending.proofs.SalvageCases.{unrefused-salvageable}
+use Rattle.listing.specs.Sheet.{recordText, totalsWith, textRefusal, textAnswer}
+use Rattle.listing.specs.declared.Totals.{Totals}
+use Rattle.listing.specs.declared.SheetAnswer.{SheetAnswer}
 use Rattle.plot.specs.Drawn.{plusZero, drawnRefusal, drawnAnswer}
 use Rattle.plot.specs.Dots.{dotNumber, dotValue, dotAnswer}
 use Rattle.ploegelster.specs.Boundary.{dotKind, toldDot}
@@ -300,3 +303,24 @@ alpha-bars-noughts r (pos (suc (suc (suc n)))) m some = (refl, refl, refl)
 alpha-bars-noughts r (negsuc zero) m some = bars-noughts _ _ _ some
 alpha-bars-noughts r (negsuc (suc zero)) m some = bars-noughts _ _ _ some
 alpha-bars-noughts r (negsuc (suc (suc n))) m some = (refl, refl, refl)
+
+-- ---- the lines of a record on a sheet
+
+module _ (bytes : List ℕ) (t : Totals) (buffer : List ℕ) where
+  abbrev r : Refusal
+  r = textRefusal bytes t (length buffer)
+
+  pub text-noughts : Refused (textAnswer bytes t (length buffer) .number) →
+      (textAnswer bytes t (length buffer) .length ≡ 0) × (textAnswer bytes t (length buffer) .totals ≡ t) × (bufferLeft r (recordText bytes) buffer ≡ buffer)
+  unfolding textAnswer bufferLeft
+  text-noughts some = rw (by-refusal r (λ nothing. rw nothing) some) (refl, refl, refl)
+
+  pub past-the-text : (i e : ℕ) → textAnswer bytes t (length buffer) .length ≤ i → getD (bufferLeft r (recordText bytes) buffer) i e ≡ getD buffer i e
+  unfolding textAnswer bufferLeft
+  past-the-text i e = by-number (eqb (r .number) 0)
+    where
+      by-number : (nought : Bool) →
+          cond {A = SheetAnswer} nought (record { number = 0; place = 0; length = length (recordText bytes); totals = totalsWith t bytes }) (record { number = r .number; place = r .place; length = 0; totals = t }) .length ≤ i →
+          getD (cond nought (written (recordText bytes) buffer) buffer) i e ≡ getD buffer i e
+      by-number true h = written-past (recordText bytes) buffer i e h
+      by-number false h = refl

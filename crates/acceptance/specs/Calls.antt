@@ -1,5 +1,5 @@
 -- What a sequence of the meter's calls is: each call is given the meter as the call before gave it back, is lent its own ring, and ends as the
--- function's own contract allows.
+-- function's own contract allows. And what the calls of a sheet are: each is given the totals as the call before gave them back.
 use mathlib.Core.Path.{_≡_}
 use mathlib.Core.List.{List, [], _∷_, _++_}
 use Prim.Native.Nat.{ℕ}
@@ -7,6 +7,7 @@ use base.Fml.{GName}
 use contract.Lifetimes.{Lfts}
 use denote.Ref.{RefT}
 use lib.IntN.{ℤ}
+use lib.ListN.{take}
 use Rattle.laws.specs.Single.{Allows}
 use Rattle.meter.specs.declared.Meter.{Meter}
 use Rattle.meter.specs.declared.MeterAnswer.{MeterAnswer}
@@ -17,6 +18,13 @@ use Rattle.meter.proofs.Meter.sample.Reads as sample
 use Rattle.meter.proofs.Meter.sample.Kinds as sample-kinds
 use Rattle.meter.proofs.Meter.report.Reads as report
 use Rattle.meter.proofs.Meter.report.Kinds as report-kinds
+use Rattle.record.specs.declared.CountAnswer.{CountAnswer}
+use Rattle.listing.specs.declared.Totals.{Totals}
+use Rattle.listing.specs.declared.SheetAnswer.{SheetAnswer}
+use Rattle.listing.proofs.sheet_record.Reads as sheet-record
+use Rattle.listing.proofs.sheet_record.Kinds as sheet-record-kinds
+use Rattle.listing.proofs.sheet_total.Reads as sheet-total
+use Rattle.listing.proofs.sheet_total.Kinds as sheet-total-kinds
 use Rattle.acceptance.specs.Noughts.{Refused}
 
 -- ---- one call
@@ -61,3 +69,26 @@ pub data Run : Meter → List ℤ → List ℤ → List MeterAnswer → Type 0 w
   done : {x : Meter} {ring : List ℤ} → Run x ring [] []
   next : {x : Meter} {ring left vs : List ℤ} {v : ℤ} {z : MeterAnswer} {zs : List MeterAnswer} →
       Samples x ring v z left → Run (z .meter) left vs zs → Run x ring (v ∷ vs) (z ∷ zs)
+
+-- ---- the calls of a sheet
+
+-- bytes that are lent, wherever they lie
+abbrev pub lentBytes : ℕ × ℕ → GName → List ℕ → RefT (List ℕ)
+lentBytes place name bytes = record { ptr = place; name = name; now = bytes }
+
+-- a call of sheet_record with a file's bytes and totals, lent a buffer, may answer z and leave the buffer as `left`
+pub data PrintsRecord (bytes : List ℕ) (t : Totals) (buffer : List ℕ) (z : SheetAnswer) (left : List ℕ) : Type 0 where
+  by-contract : (κs : Lfts 2) (place other : ℕ × ℕ) (name another : GName) →
+      Allows 2 sheet-record-kinds.ps sheet-record-kinds.r sheet-record.Post κs (lentBytes place name bytes, (t, (lentBytes other another buffer, tt))) z (tt, (tt, (left, tt))) →
+      PrintsRecord bytes t buffer z left
+
+-- a call of sheet_total with totals, lent a buffer, may answer z and leave the buffer as `left`
+pub data PrintsTotal (t : Totals) (buffer : List ℕ) (z : CountAnswer) (left : List ℕ) : Type 0 where
+  by-contract : (κs : Lfts 1) (place : ℕ × ℕ) (name : GName) →
+      Allows 1 sheet-total-kinds.ps sheet-total-kinds.r sheet-total.Post κs (t, (lentBytes place name buffer, tt)) z (tt, (left, tt)) → PrintsTotal t buffer z left
+
+-- Printed t files text: from totals t on, a call for each file in turn, each answered, and one for the closing line wrote these texts one after the other
+pub data Printed : Totals → List (List ℕ) → List ℕ → Type 0 where
+  closed : {t : Totals} {buffer left : List ℕ} {z : CountAnswer} → PrintsTotal t buffer z left → z .number ≡ 0 → Printed t [] (take (z .count) left)
+  next : {t : Totals} {bytes buffer left text : List ℕ} {files : List (List ℕ)} {z : SheetAnswer} →
+      PrintsRecord bytes t buffer z left → z .number ≡ 0 → Printed (z .totals) files text → Printed t (bytes ∷ files) (take (z .length) left ++ text)

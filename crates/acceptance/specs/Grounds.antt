@@ -18,8 +18,10 @@ use Rattle.variances.specs.Deviations.{within}
 use Rattle.drift.specs.Drift.{withoutDrift}
 use Rattle.meter.specs.declared.Meter.{Meter}
 use Rattle.phr.specs.Bytes.{valueAt}
-use Rattle.phr.specs.Reading.{kindOf, countOf, headLength, startOf}
+use Rattle.phr.specs.Reading.{kindOf, countOf, headLength, startOf, recordValues}
 use Rattle.mending.specs.Salvage.{salvagedFile}
+use Rattle.listing.specs.Sheet.{samplesOf, recordText, totalLine}
+use Rattle.listing.specs.declared.Totals.{Totals}
 
 -- ---- what a table says of an answer
 
@@ -303,3 +305,32 @@ pub data OfWritingFrom (kind : ℕ) (start : ℤ) (values : List ℤ) (room : �
       OfWritingFrom kind start values room 3 0
   range : {i : ℕ} → kind ≤ 1 → (kind ≡ 0 → start ≡ pos 0) → (TooMany kind (length values) → ⊥) → 16 + 8 * length values ≤ room → natAbs start ≤ 2 ^ 40 →
       First (length values) (λ k. FarValue kind (at values k)) i → OfWritingFrom kind start values room 3 i
+
+-- ---- the sheet
+
+-- more values than a sheet takes
+abbrev pub ManyOnSheet : ℕ → ℕ → Type 0
+ManyOnSheet kind count = ((kind ≡ 0) × (4096 < count)) ⊎ ((kind ≡ 0 → ⊥) × (4095 < count))
+
+-- a record on a sheet, refused as a whole: by its header; by a count of more values than a sheet takes; by the reader, with room for 4,096; by the phases
+-- of a frequency record; by the Allan sum at factor 1
+module _ (bytes : List ℕ) where
+  abbrev pub FewOnSheet : Type 0
+  FewOnSheet = ManyOnSheet (kindOf bytes) (countOf bytes) → ⊥
+
+  pub data OfSheet : ℕ → ℕ → Type 0 where
+    header : {n p : ℕ} → OfRecordHeader bytes n p → OfSheet n p
+    many : NoRow (OfRecordHeader bytes) → ManyOnSheet (kindOf bytes) (countOf bytes) → OfSheet 2 0
+    file : {n p : ℕ} → NoRow (OfRecordHeader bytes) → FewOnSheet → OfRecordFile bytes 4096 n p → OfSheet n p
+    phases : {n p : ℕ} → NoRow (OfRecordFile bytes 4096) → FewOnSheet → (kindOf bytes ≡ 0 → ⊥) → OfPhasesFrom (startOf bytes) (recordValues bytes) 4096 n p → OfSheet n p
+    allan : {n p : ℕ} → NoRow (OfRecordFile bytes 4096) → FewOnSheet → ((kindOf bytes ≡ 0 → ⊥) → NoRow (OfPhasesFrom (startOf bytes) (recordValues bytes) 4096)) →
+        OfRecord 10922 3 1 (samplesOf bytes) n p → OfSheet n p
+
+-- sheet_record, with room for so much text
+pub data OfText (bytes : List ℕ) (t : Totals) (room : ℕ) : ℕ → ℕ → Type 0 where
+  large : (2 ^ 63 < t .k) ⊎ (2 ^ 63 < t .c) → OfText bytes t room 2 0
+  no-room : t .k ≤ 2 ^ 63 → t .c ≤ 2 ^ 63 → room < length (recordText bytes) → OfText bytes t room 6 0
+
+-- sheet_total
+pub data OfTotal (t : Totals) (room : ℕ) : ℕ → ℕ → Type 0 where
+  no-room : room < length (totalLine t) → OfTotal t room 6 0

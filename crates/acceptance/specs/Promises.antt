@@ -13,6 +13,7 @@ use Rattle.laws.specs.Greatest.{Greatest}
 use Rattle.laws.specs.Lists.{at}
 use Rattle.wide.specs.Wide.{value}
 use Rattle.wide.specs.declared.Wide.{Wide}
+use Rattle.record.specs.Refusals.{refused}
 use Rattle.record.specs.declared.CountAnswer.{CountAnswer}
 use Rattle.sums.specs.Published.{allanSum, modifiedSum}
 use Rattle.sums.specs.declared.Part.{Part}
@@ -29,7 +30,10 @@ use Rattle.phr.specs.declared.ReadAnswer.{ReadAnswer}
 use Rattle.phr.specs.declared.RecordAnswer.{RecordAnswer}
 use Rattle.mending.specs.Salvage.{presentValues, LongestGood}
 use Rattle.mending.specs.declared.SalvageAnswer.{SalvageAnswer}
+use Rattle.listing.specs.Sheet.{AllFactors, linesOf, allanCounts, modifiedCounts, samplesOf, refusedLine}
+use Rattle.listing.specs.declared.Totals.{Totals}
 use Rattle.acceptance.specs.Noughts.{DotNought}
+use Rattle.acceptance.specs.Grounds.{NoRow, OfSheet}
 
 -- ---- sums
 
@@ -201,3 +205,16 @@ pub record LeavesMore (more : ℕ) (z z′ : SalvageAnswer) (left left′ : List
   pub left-over : z .number ≡ 0 → z′ .«left_over» ≡ z .«left_over» + more
   pub met : z′ .met ≡ z .met
   pub buffer : left′ ≡ left
+
+-- ---- the sheet
+
+-- the text of a record: the line of its refusal where it is refused as a whole, else the lines of all its factors
+pub record TextOf (bytes text : List ℕ) : Type 0 where
+  pub refused-line : {n p : ℕ} → OfSheet bytes n p → text ≡ refusedLine (refused n p)
+  pub lines : NoRow (OfSheet bytes) → (ms : List ℕ) → AllFactors (length (samplesOf bytes)) ms → text ≡ linesOf (samplesOf bytes) ms
+
+-- the totals with a record: as they were where it is refused as a whole, else with K and C of all its factors more
+pub record TotalsOf (bytes : List ℕ) (before after : Totals) : Type 0 where
+  pub unchanged : {n p : ℕ} → OfSheet bytes n p → after ≡ before
+  pub more : NoRow (OfSheet bytes) → (ms : List ℕ) → AllFactors (length (samplesOf bytes)) ms →
+      (after .k ≡ before .k + allanCounts (samplesOf bytes) ms) × (after .c ≡ before .c + modifiedCounts (samplesOf bytes) ms)

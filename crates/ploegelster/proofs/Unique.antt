@@ -53,6 +53,10 @@ use Rattle.ploegelster.proofs.files.plg_write_record.Reads as plg-write
 use Rattle.ploegelster.proofs.files.plg_write_record.Kinds as plg-write-record-kinds
 use Rattle.ploegelster.proofs.files.plg_salvage.Reads as plg-salvage
 use Rattle.ploegelster.proofs.files.plg_salvage.Kinds as plg-salvage-kinds
+use Rattle.ploegelster.proofs.sheets.plg_sheet_record.Reads as plg-sheet-record
+use Rattle.ploegelster.proofs.sheets.plg_sheet_record.Kinds as plg-sheet-record-kinds
+use Rattle.ploegelster.proofs.sheets.plg_sheet_total.Reads as plg-sheet-total
+use Rattle.ploegelster.proofs.sheets.plg_sheet_total.Kinds as plg-sheet-total-kinds
 
 -- ---- published
 
@@ -143,3 +147,11 @@ plg-write-record-single κs args z z′ w w′ first second = (first .0 ∙ sym 
 
 pub plg-salvage-single : Single 2 plg-salvage-kinds.ps plg-salvage-kinds.r plg-salvage.Post
 plg-salvage-single κs args z z′ w w′ first second = (first .0 ∙ sym (second .0), λ i. (tt, ((first .1 ∙ sym (second .1)) i, tt)))
+
+-- ---- sheets
+
+pub plg-sheet-record-single : Single 2 plg-sheet-record-kinds.ps plg-sheet-record-kinds.r plg-sheet-record.Post
+plg-sheet-record-single κs args z z′ w w′ first second = (first .0 ∙ sym (second .0), λ i. (tt, (tt, ((first .1 ∙ sym (second .1)) i, tt))))
+
+pub plg-sheet-total-single : Single 1 plg-sheet-total-kinds.ps plg-sheet-total-kinds.r plg-sheet-total.Post
+plg-sheet-total-single κs args z z′ w w′ first second = (first .0 ∙ sym (second .0), λ i. (tt, ((first .1 ∙ sym (second .1)) i, tt)))

@@ -6,3 +6,4 @@ pub mod floats;
 pub mod meters;
 pub mod phases;
 pub mod published;
+pub mod sheets;

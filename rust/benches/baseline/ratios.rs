@@ -4,7 +4,7 @@ use crate::streams::{library_stream, plain_stream, wrapped_stream};
 use crate::timing::medians;
 use crate::{naive, straightforward, LENGTH, TURNS};
 use independent::file::{file_of, Kind};
-use ploegelster::Meter;
+use ploegelster::{Meter, Totals};
 use std::hint::black_box;
 
 const FACTORS: [u64; 3] = [1, 100, 5_000];
@@ -29,6 +29,7 @@ pub fn table(samples: &[i64]) {
         meter(samples, m, "meter, a sample, by the wrapper", wrapped_stream);
     }
     file(samples);
+    sheet(&samples[..ploegelster::MOST_SHEET_SAMPLES]);
 }
 
 /// The samples with none to nine tenths added, so that nine of ten readings have a fraction.
@@ -37,8 +38,13 @@ fn readings(samples: &[i64]) -> Vec<f64> {
 }
 
 /// A line of the table, from medians of whole turns: the naive sum's only where it was timed, and the ratio of the other two.
-fn line(work: &str, m: u64, (library, plain): (f64, f64), naive: Option<f64>) {
-    let of_one = |median: f64| format!("{:.2}", median / LENGTH as f64);
+fn line(work: &str, m: u64, both: (f64, f64), naive: Option<f64>) {
+    line_of(LENGTH, work, m, both, naive);
+}
+
+/// The same of so many values.
+fn line_of(length: usize, work: &str, m: u64, (library, plain): (f64, f64), naive: Option<f64>) {
+    let of_one = |median: f64| format!("{:.2}", median / length as f64);
     let factor = if m == 0 { String::new() } else { m.to_string() };
     let naive = naive.map_or(String::new(), of_one);
     println!("| {work} | {factor} | {} | {} | {naive} | {:.2} |", of_one(library), of_one(plain), library / plain);
@@ -91,4 +97,15 @@ fn file(samples: &[i64]) {
     assert_eq!(buffer, plain_buffer);
     let library = || ploegelster::read_file(black_box(&bytes), &mut buffer);
     compare("file read", 0, library, || straightforward::read_file(black_box(&bytes), &mut plain_buffer));
+}
+
+fn sheet(samples: &[i64]) {
+    let bytes = file_of(Kind::Phase, samples);
+    let (mut text, mut plain_buffer) = ([0; ploegelster::SHEET_ROOM], vec![0; samples.len()]);
+    let none = Totals { k: 0, c: 0 };
+    let ours = ploegelster::sheet_record(&bytes, none, &mut text).expect("the room is enough");
+    assert_eq!(&text[..ours.length], straightforward::sheet(&bytes, &mut plain_buffer).as_bytes());
+    let library = || ploegelster::sheet_record(black_box(&bytes), none, &mut text);
+    let both = medians(TURNS, library, || straightforward::sheet(black_box(&bytes), &mut plain_buffer));
+    line_of(samples.len(), "sheet", 0, both, None);
 }

@@ -175,3 +175,66 @@ pub fn read_file(bytes: &[u8], buffer: &mut [i64]) -> Outcome<(u64, u64)> {
     }
     Ok((kind as u64, count as u64))
 }
+
+/// The deviation of the variance `sum` / `below`, in units of 2^-20: of a record within the bounds the square of it has fewer than 128 bits.
+fn deviation(sum: u128, below: u128) -> u64 {
+    (((sum / below) << 40) + ((sum % below) << 40) / below).isqrt() as u64
+}
+
+/// A variance in lowest terms.
+fn fraction(sum: u128, below: u128) -> String {
+    let (mut a, mut b) = (sum, below);
+    while b != 0 {
+        (a, b) = (b, a % b);
+    }
+    format!("{}/{}", sum / a, below / a)
+}
+
+fn time_deviation(samples: &[i64], m: usize) -> u64 {
+    let (b, c) = modified_of(samples, m);
+    deviation(b, 6 * (m * m) as u128 * c as u128)
+}
+
+fn alpha(samples: &[i64], m: usize) -> String {
+    if samples.len() < 6 * m {
+        return "-".to_string();
+    }
+    let (r1, r2) = (time_deviation(samples, m) as u128, time_deviation(samples, 2 * m) as u128);
+    if r1 == 0 {
+        return "r8".to_string();
+    }
+    let above = [3_444, 4_871, 6_889, 9_742].iter().filter(|&&bound| 4_096 * r2 > r1 * bound).count();
+    (2 - above as i64).to_string()
+}
+
+/// The lines of a phase record on a sheet, from its file.
+#[inline(never)]
+pub fn sheet(bytes: &[u8], buffer: &mut [i64]) -> String {
+    let mut text = String::new();
+    let refused = |(number, place): (u64, u64)| format!("refused {number} at {place}\n");
+    let count = match read_file(bytes, buffer) {
+        Ok((_, count)) => count as usize,
+        Err(refusal) => return refused(refusal),
+    };
+    let samples = &buffer[..count];
+    if let Err(refusal) = check(samples, 1, 3) {
+        return refused(refusal);
+    }
+    let mut m = 1;
+    while samples.len() > 2 * m {
+        let (a, k) = allan_of(samples, m);
+        let below = 2 * (m * m) as u128 * k as u128;
+        text += &format!("{m} {} {k} {} ", fraction(a, below), deviation(a, below));
+        if samples.len() < 3 * m {
+            text += "r1 r1 r1 ";
+        } else {
+            let (b, c) = modified_of(samples, m);
+            let below = 6 * (m * m) as u128 * c as u128;
+            text += &format!("{} {c} {} ", fraction(b, below), deviation(b, below));
+        }
+        text += &alpha(samples, m);
+        text += "\n";
+        m *= 2;
+    }
+    text
+}

@@ -9,6 +9,7 @@ use super::frequency::{frequency_from_phase, phase_from_frequency, phase_from_st
 use super::meter;
 use super::noise::{bars, half_width, noise_of_record, noise_type, Bars, Noise};
 use super::salvage::{salvage, Salvaged};
+use super::sheet::{lines, sheet, sheet_record, sheet_total, Sheet, Totals};
 use super::sums::{allan_sum, modified_sum, Sum};
 use super::{Answer, Refusal};
 
@@ -271,4 +272,29 @@ fn salvaged_file() {
     assert_eq!(salvage(&damaged[..7], &mut bytes), refused(9, 7));
     assert_eq!(salvage(&record_of(Kind::Phase, 5, &[1]), &mut bytes), refused(9, 8));
     assert_eq!(salvage(&record_of(Kind::Frequency, END + 1, &[1]), &mut bytes), refused(3, 0));
+}
+
+#[test]
+fn whole_sheet() {
+    let squares = file_of(Kind::Phase, &[0, 1, 4, 9, 16, 25]);
+    let whole = "1 2/1 4 1482910 2/3 4 856158 -2\n2 8/1 2 2965820 32/3 1 3424634 -\ntotal 6 5\n";
+    assert_eq!(sheet(std::slice::from_ref(&squares)), whole);
+    assert_eq!(sheet(&[]), "total 0 0\n");
+    let mut text = [9; 80];
+    let two = Totals { k: 6, c: 5 };
+    assert_eq!(sheet_record(&squares, Totals::default(), &mut text), Ok(Sheet { length: 65, totals: two }));
+    assert_eq!((&text[..65], &text[65..]), (&whole.as_bytes()[..65], &[9; 15][..]));
+    assert_eq!(sheet_record(&squares, Totals { k: 0, c: (1 << 63) + 1 }, &mut []), refused(2, 0));
+    assert_eq!(sheet_record(&squares, Totals { k: 1 << 63, c: 1 << 63 }, &mut text[..64]), refused(6, 0));
+    text.fill(9);
+    assert_eq!(sheet_total(two, &mut text[..9]), refused(6, 0));
+    assert_eq!(sheet_total(two, &mut text), Ok(10));
+    assert_eq!((&text[..10], text[10]), (&b"total 6 5\n"[..], 9));
+    let refused_as_a_whole = |bytes: &[u8]| lines(bytes).text;
+    assert_eq!(refused_as_a_whole(&[]), "refused 9 at 0\n");
+    assert_eq!(refused_as_a_whole(&file_of(Kind::Phase, &[0; 2])), "refused 1 at 0\n");
+    assert_eq!(refused_as_a_whole(&file_of(Kind::Phase, &[0; 4_097])), "refused 2 at 0\n");
+    assert_eq!(refused_as_a_whole(&file_of(Kind::Frequency, &[0; 4_096])), "refused 2 at 0\n");
+    assert_eq!(refused_as_a_whole(&record_of(Kind::Frequency, END, &[-1, 1, 1])), "refused 3 at 2\n");
+    assert_eq!(refused_as_a_whole(&record_of(Kind::Phase, 1, &[0; 3])), "refused 9 at 8\n");
 }

@@ -10,6 +10,7 @@ pub mod frequency;
 pub mod meter;
 pub mod noise;
 pub mod salvage;
+pub mod sheet;
 pub mod sums;
 
 #[cfg(test)]

@@ -8,6 +8,7 @@ use independent::fractions::Fraction;
 use independent::meter::Meter;
 use independent::noise::{Bars, Noise};
 use independent::salvage::Salvaged;
+use independent::sheet::{Sheet, Totals};
 use independent::sums::{Sum, Sums};
 use independent::Answer;
 use ploegelster::boundary;
@@ -109,6 +110,12 @@ impl Words for boundary::RecordAnswer {
 impl Words for boundary::SalvageAnswer {
     fn words(&self) -> Vec<u64> {
         vec![self.number, self.place, self.old_count, self.new_count, self.left_over, self.met]
+    }
+}
+
+impl Words for boundary::SheetAnswer {
+    fn words(&self) -> Vec<u64> {
+        vec![self.number, self.place, self.length, self.totals.k, self.totals.c]
     }
 }
 
@@ -239,6 +246,13 @@ impl Values for Salvaged {
     }
 }
 
+impl Values for Sheet {
+    const LENGTH: usize = 3;
+    fn values(&self) -> Vec<u64> {
+        vec![self.length, self.totals.k, self.totals.c]
+    }
+}
+
 /// How many entries the wrapper says were written.
 impl Values for usize {
     const LENGTH: usize = 1;
@@ -335,6 +349,13 @@ impl Values for ploegelster::Salvage {
     }
 }
 
+impl Values for ploegelster::Sheet {
+    const LENGTH: usize = 3;
+    fn values(&self) -> Vec<u64> {
+        vec![self.length as u64, self.totals.k, self.totals.c]
+    }
+}
+
 fn laid_out<T: Values>(answer: Result<&T, [u64; 2]>) -> Vec<u64> {
     match answer {
         Ok(values) => [vec![0, 0], values.values()].concat(),
@@ -357,5 +378,13 @@ pub fn expected_meter(answer: &Answer<Meter>, old: &Meter) -> Vec<u64> {
     match answer {
         Ok(meter) => [vec![0, 0], meter.values()].concat(),
         Err(refusal) => [vec![refusal.number, refusal.place], old.values()].concat(),
+    }
+}
+
+/// The same of a record's lines over the plain C interface, where a refusal hands the totals back as they came.
+pub fn expected_sheet(answer: &Answer<Sheet>, old: &Totals) -> Vec<u64> {
+    match answer {
+        Ok(sheet) => [vec![0, 0], sheet.values()].concat(),
+        Err(refusal) => vec![refusal.number, refusal.place, 0, old.k, old.c],
     }
 }

@@ -114,3 +114,16 @@ pub fn write_record(kind: u64, start: i64, values: &[i64], buffer: &mut [u8]) ->
 pub fn salvage(bytes: &[u8], buffer: &mut [u8]) -> SalvageAnswer {
     unsafe { plg_salvage(bytes.as_ptr(), bytes.len(), buffer.as_mut_ptr(), buffer.len()) }
 }
+
+/// The totals with the fields of the second implementation's.
+pub fn totals(totals: &independent::sheet::Totals) -> Totals {
+    Totals { k: totals.k, c: totals.c }
+}
+
+pub fn sheet_record(bytes: &[u8], totals: Totals, text: &mut [u8]) -> SheetAnswer {
+    unsafe { plg_sheet_record(bytes.as_ptr(), bytes.len(), totals, text.as_mut_ptr(), text.len()) }
+}
+
+pub fn sheet_total(totals: Totals, text: &mut [u8]) -> CountAnswer {
+    unsafe { plg_sheet_total(totals, text.as_mut_ptr(), text.len()) }
+}

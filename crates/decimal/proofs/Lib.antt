@@ -1,0 +1,4 @@
+pub mod DigitLaws
+pub mod Meaning
+pub mod ReadBack
+pub mod Unique

@@ -1,0 +1,9 @@
+pub mod ColumnLaws
+pub mod LineLaws
+pub mod FactorLaws
+pub mod SheetCases
+pub mod TextCases
+pub mod LongerLaws
+pub mod FactorMeaning
+pub mod RoomLaws
+pub mod Unique
