@@ -9,7 +9,7 @@ use independent::{greatest, Refusal};
 use ploegelster::boundary::SalvageAnswer;
 use shared::answers::Words;
 use shared::ends::{self, beyond, block_counts, last_block_counts, within};
-use shared::files::{end_of, most, sound_start, values, with_two_header_bytes_changed, FILES, KINDS};
+use shared::files::{end_of, most, sound_start, values, with_two_header_bytes_changed, Parts, FILES, KINDS};
 use shared::lent::{Lent, Sides};
 use shared::random::Random;
 use shared::records::OUTSIDE;
@@ -83,49 +83,17 @@ fn rooms_of(bytes: &[u8]) -> Vec<usize> {
     rooms_about(least as usize, bytes.len())
 }
 
-/// A damaged file by its parts, with no wrong byte among the first six of its header.
-#[derive(Clone)]
-struct Damaged {
-    version: Version,
-    kind: Kind,
-    start: i64,
-    /// The count that the header says.
-    written: usize,
-    /// All whole values that follow the header.
-    values: Vec<i64>,
-    /// What follows these: fewer than eight bytes.
-    rest: Vec<u8>,
-}
-
-impl Damaged {
-    /// Not yet damaged but for its values, if one is outside.
-    fn whole(version: Version, kind: Kind, start: i64, values: &[i64]) -> Damaged {
-        Damaged { version, kind, start, written: values.len(), values: values.to_vec(), rest: vec![] }
-    }
-
-    fn header(&self) -> usize {
-        match self.version {
-            Version::One => 8,
-            Version::Two => 16,
-        }
-    }
-
-    fn bytes(&self) -> Vec<u8> {
-        let mut bytes = bytes_of(self.version, self.kind, self.start, &self.values);
-        bytes[6..8].copy_from_slice(&(self.written as u16).to_le_bytes());
-        bytes.extend(&self.rest);
-        bytes
-    }
-
+/// What salvage makes of a file by its parts.
+impl Parts {
     /// The same with so many bytes alone, at least those of the header.
-    fn cut(&self, length: usize) -> Damaged {
+    fn cut(&self, length: usize) -> Parts {
         let count = (length - self.header()) / 8;
         let rest = self.bytes()[self.header() + 8 * count..length].to_vec();
-        Damaged { values: self.values[..count].to_vec(), rest, ..self.clone() }
+        Parts { values: self.values[..count].to_vec(), rest, ..self.clone() }
     }
 
     /// The same, where its last value is whole, with so many bytes behind it.
-    fn with_more(&self, more: usize, byte: u8) -> Damaged {
+    fn with_more(&self, more: usize, byte: u8) -> Parts {
         let mut longer = self.clone();
         longer.values.resize(self.values.len() + more / 8, i64::from_le_bytes([byte; 8]));
         longer.rest = vec![byte; more % 8];
@@ -228,7 +196,7 @@ fn every_truncation_and_extension() {
     let refused_starts = [(Kind::Frequency, END + 1), (Kind::Frequency, i64::MIN), (Kind::Phase, 1), (Kind::Phase, -END - 1)];
     for (version, kind, start) in FILES.into_iter().chain(refused_starts.map(|(kind, start)| (Version::Two, kind, start))) {
         for values in short_lists(kind) {
-            let whole = Damaged::whole(version, kind, start, &values);
+            let whole = Parts::whole(version, kind, start, &values);
             let bytes = whole.bytes();
             for length in 0..whole.header() {
                 for room in [0, length, bytes.len()] {
@@ -286,8 +254,8 @@ fn every_header() {
                     let wrong = [version & 255 != 1 && version & 255 != 2, version > 255, kind > 1];
                     let sound = KINDS.into_iter().find(|known| known.byte() == kind).and_then(|kind| match version {
                         // What is a start in version 2 is a value in version 1.
-                        1 => Some(Damaged { written: count, ..Damaged::whole(Version::One, kind, 0, &[start]) }),
-                        2 => Some(Damaged { written: count, ..Damaged::whole(Version::Two, kind, start, &[]) }),
+                        1 => Some(Parts { written: count, ..Parts::whole(Version::One, kind, 0, &[start]) }),
+                        2 => Some(Parts { written: count, ..Parts::whole(Version::Two, kind, start, &[]) }),
                         _ => None,
                     });
                     for length in 0..=16 {
@@ -338,7 +306,7 @@ fn written_counts_at_their_limits() {
     let (mut tally, mut random) = (Tally::default(), Random::new(122));
     for (version, kind, start) in kinds_of_files(&mut random) {
         let all = values(&mut random, kind, 65_537, 0);
-        let file = |written: usize, count: usize| Damaged { written, ..Damaged::whole(version, kind, start, &all[..count]) };
+        let file = |written: usize, count: usize| Parts { written, ..Parts::whole(version, kind, start, &all[..count]) };
         for written in [0, 1, 255, 256, 32_766, 32_767, 32_768, 32_769, 65_535] {
             for count in [0, 1, 5, 256, 257] {
                 for rest in [0, 1, 7] {
@@ -373,7 +341,7 @@ fn lengths_about_the_right_one() {
     for (version, kind, start) in kinds_of_files(&mut random) {
         for count in [3, 9, 255, 256, 257, 1_000] {
             let all = values(&mut random, kind, count + 3, 0);
-            let longest = Damaged { written: count, ..Damaged::whole(version, kind, start, &all) };
+            let longest = Parts { written: count, ..Parts::whole(version, kind, start, &all) };
             let right = longest.header() + 8 * count;
             for length in right - 17..=right + 17 {
                 let damaged = longest.cut(length);
@@ -398,10 +366,10 @@ fn values_at_the_ends_of_their_range() {
                 let mut values: Vec<i64> = (0..9).map(|i| if i % 2 == 0 { end - i } else { i - end }).collect();
                 values[index] = value;
                 let met = value < -end || value > end;
-                let damaged = Damaged::whole(version, kind, start, &values);
+                let damaged = Parts::whole(version, kind, start, &values);
                 damaged.with_all_rooms(&mut tally);
                 assert_eq!(damaged.told(88), if met { answered(9, index, 72 - 8 * index, true) } else { answered(9, 9, 0, false) });
-                let behind = Damaged { written: index, ..damaged.clone() };
+                let behind = Parts { written: index, ..damaged.clone() };
                 behind.with_all_rooms(&mut tally);
                 assert_eq!(behind.told(88), answered(index, index, 72 - 8 * index, false));
                 for length in 1..8 {
@@ -422,13 +390,13 @@ fn every_start_of_frequency_values() {
     for (starts, number) in [(inside, 0), (outside, 3)] {
         for start in starts {
             for values in [&[][..], &[2 * END, -2 * END], &[2 * END + 1], &[0, -2 * END - 1, i64::MAX]] {
-                let damaged = Damaged::whole(Version::Two, Kind::Frequency, start, values);
+                let damaged = Parts::whole(Version::Two, Kind::Frequency, start, values);
                 damaged.with_all_rooms(&mut tally);
                 damaged.with_more(5, 0x7F).with_room(&mut tally);
                 assert_eq!(damaged.told(damaged.length())[0], number);
                 // Room is asked before the start, and the count before both.
                 assert_eq!(damaged.told(damaged.length() - 1), refused(6, 0));
-                let many = Damaged { written: 32_768, ..damaged };
+                let many = Parts { written: 32_768, ..damaged };
                 many.with_rooms(&mut tally, &[0, many.length()]);
                 assert_eq!(many.told(0), refused(2, 0));
             }
@@ -445,13 +413,13 @@ fn phase_samples_have_no_start() {
         for byte in 1..=255 {
             let mut eight = [0; 8];
             eight[offset] = byte;
-            let damaged = Damaged::whole(Version::Two, Kind::Phase, i64::from_le_bytes(eight), &[1, -1]);
+            let damaged = Parts::whole(Version::Two, Kind::Phase, i64::from_le_bytes(eight), &[1, -1]);
             let bytes = damaged.bytes();
-            for file in [damaged.cut(16), damaged.cut(31), damaged.with_more(9, 0xFF), Damaged { written: 32_769, ..damaged.clone() }] {
+            for file in [damaged.cut(16), damaged.cut(31), damaged.with_more(9, 0xFF), Parts { written: 32_769, ..damaged.clone() }] {
                 file.with_room(&mut tally);
                 assert_eq!(file.told(file.length()), refused(9, 8));
             }
-            let outside = Damaged { values: vec![END + 1, -1], ..damaged.clone() };
+            let outside = Parts { values: vec![END + 1, -1], ..damaged.clone() };
             outside.with_rooms(&mut tally, &[0, 32]);
             damaged.with_rooms(&mut tally, &[0, 15, 31, 32]);
             // A wrong byte before it, and a header that ends within it, are told first.
@@ -491,7 +459,7 @@ fn first_of_all_faults() {
                 (_, true) => random.pick(&OUTSIDE),
                 _ => sound_start(&mut random, kind),
             };
-            let mut damaged = Damaged::whole(version, kind, start, &values(&mut random, kind, 3, 0));
+            let mut damaged = Parts::whole(version, kind, start, &values(&mut random, kind, 3, 0));
             if has(VALUE) {
                 damaged.values[random.below(3) as usize] = random.pick(&outside[kind.byte() as usize]);
             }
@@ -537,7 +505,7 @@ fn files_where_a_block_of_values_ends() {
     for (version, kind, start) in kinds_of_files(&mut random) {
         let end = end_of(kind);
         for count in block_counts() {
-            let mut damaged = Damaged::whole(version, kind, start, &(0..count).map(|_| random.between(-end, end)).collect::<Vec<_>>());
+            let mut damaged = Parts::whole(version, kind, start, &(0..count).map(|_| random.between(-end, end)).collect::<Vec<_>>());
             damaged.with_room(&mut tally);
             damaged.cut(damaged.length() - 1).with_room(&mut tally);
             for index in [0, count / 2, count - 1] {
@@ -552,7 +520,7 @@ fn files_where_a_block_of_values_ends() {
 
 /// The file of these values, with just as much room as the new one takes, where this is the first value outside, if one is.
 fn range_case(tally: &mut Tally, (version, kind, start): (Version, Kind, i64), values: &[i64], first: Option<usize>) {
-    let damaged = Damaged::whole(version, kind, start, values);
+    let damaged = Parts::whole(version, kind, start, values);
     assert_eq!(damaged.kept(), (first.unwrap_or(values.len()), first.is_some()));
     damaged.with_room(tally);
 }

@@ -9,7 +9,7 @@ use independent::Answer;
 use ploegelster::boundary::SumAnswer;
 use shared::answers::{expected_sheet, Words};
 use shared::ends::{beyond, extremes, within};
-use shared::files::{end_of, sound_start, values, with_two_header_bytes_changed, FILES, KINDS};
+use shared::files::{end_of, sound_start, values, with_two_header_bytes_changed, Parts, FILES, KINDS};
 use shared::lent::{Lent, Sides};
 use shared::random::Random;
 use shared::records::{record, OUTSIDE};
@@ -219,39 +219,7 @@ fn by_lot(random: &mut Random) -> Vec<u8> {
     bytes
 }
 
-/// A record file by its parts, with no wrong byte among the first six of its header.
-#[derive(Clone)]
-struct Parts {
-    version: Version,
-    kind: Kind,
-    start: i64,
-    /// The count that the header says.
-    written: usize,
-    /// All whole values that follow the header.
-    values: Vec<i64>,
-    /// What follows these: fewer than eight bytes.
-    rest: Vec<u8>,
-}
-
 impl Parts {
-    fn whole(version: Version, kind: Kind, start: i64, values: &[i64]) -> Parts {
-        Parts { version, kind, start, written: values.len(), values: values.to_vec(), rest: vec![] }
-    }
-
-    fn header(&self) -> usize {
-        match self.version {
-            Version::One => 8,
-            Version::Two => 16,
-        }
-    }
-
-    fn bytes(&self) -> Vec<u8> {
-        let mut bytes = bytes_of(self.version, self.kind, self.start, &self.values);
-        bytes[6..8].copy_from_slice(&(self.written as u16).to_le_bytes());
-        bytes.extend(&self.rest);
-        bytes
-    }
-
     /// The index of the first reading whose phase leaves the range, if one does.
     fn leaves(&self) -> Option<usize> {
         let mut phase = self.start as i128;

@@ -73,3 +73,38 @@ pub fn values(random: &mut Random, kind: Kind, count: usize, one_in: u64) -> Vec
     let size = size.min(end);
     (0..count).map(|_| if one_in > 0 && random.one_in(one_in) { random.pick(&about) } else { random.between(-size, size) }).collect()
 }
+
+/// A record file by its parts, sound or damaged, with no wrong byte among the first six of its header.
+#[derive(Clone)]
+pub struct Parts {
+    pub version: Version,
+    pub kind: Kind,
+    pub start: i64,
+    /// The count that the header says.
+    pub written: usize,
+    /// All whole values that follow the header.
+    pub values: Vec<i64>,
+    /// What follows these: fewer than eight bytes.
+    pub rest: Vec<u8>,
+}
+
+impl Parts {
+    /// Not damaged but for its values, if one is outside.
+    pub fn whole(version: Version, kind: Kind, start: i64, values: &[i64]) -> Parts {
+        Parts { version, kind, start, written: values.len(), values: values.to_vec(), rest: vec![] }
+    }
+
+    pub fn header(&self) -> usize {
+        match self.version {
+            Version::One => 8,
+            Version::Two => 16,
+        }
+    }
+
+    pub fn bytes(&self) -> Vec<u8> {
+        let mut bytes = bytes_of(self.version, self.kind, self.start, &self.values);
+        bytes[6..8].copy_from_slice(&(self.written as u16).to_le_bytes());
+        bytes.extend(&self.rest);
+        bytes
+    }
+}
