@@ -50,8 +50,8 @@ extern "C" {
 #endif
 
 /** The version: the first number changes where a program that used the one before must be changed or compiled anew. */
-#define PLG_VERSION_MAJOR 5
-#define PLG_VERSION_MINOR 3
+#define PLG_VERSION_MAJOR 6
+#define PLG_VERSION_MINOR 0
 #define PLG_VERSION_PATCH 0
 
 /* ---- limits, ends allowed */
@@ -167,8 +167,12 @@ typedef struct { double low, mid, high; } plg_bar;
 /** A bar row. Where the call was answered, each of the three doubles is a drawn number, above nought. */
 typedef struct { uint64_t number, place; plg_bar bar; } plg_bars_answer;
 
-/** The running meter. At first all noughts; after that, as the latest call gave it back. Any content is answered or refused. */
-typedef struct { uint64_t m, n; plg_wide a, b; int64_t window; } plg_meter;
+/**
+ * The running meter: the factor m; n, the samples accepted since the start, in all; stretch, those of them since the latest gap; k and c, how many squares
+ * there are in a and in b; and the window, the sum of the latest second differences since the gap, all of them up to m. At first all noughts; after that, as
+ * the latest call gave it back. Any content is answered or refused.
+ */
+typedef struct { uint64_t m, n, stretch, k, c; plg_wide a, b; int64_t window; } plg_meter;
 
 /** The meter as the call leaves it: after a refusal the one that was handed in. */
 typedef struct { uint64_t number, place; plg_meter meter; } plg_meter_answer;
@@ -313,14 +317,24 @@ plg_bars_answer plg_bars(uint64_t r, int64_t alpha, uint64_t intervals);
 plg_meter_answer plg_meter_start(plg_meter old, uint64_t m, const int64_t *ring, size_t ring_length);
 
 /**
- * The meter with one more sample, which is written to its slot of the ring, n mod 3m, and nowhere else.
- * Refuses 7 (m not from 1 to 10,922, n above 32,768, the window beyond m times 2^42, a high half of 2^62 or more, the ring below 3m, or an old slot
- * that is to be read out of range), 2 (n is 32,768), 3 (the sample out of its range), all at place 0.
+ * The meter with one more sample of the present stretch, which is written to its slot of the ring, stretch mod 3m, and nowhere else.
+ * Refuses 7 (m not from 1 to 10,922; n above 32,768; stretch, k or c above n; the window beyond m times 2^42; a high half of 2^62 or more; the ring below
+ * 3m; or an old slot that is to be read out of range: those of numbers stretch-m and stretch-2m from stretch = 2m on, and of stretch-3m from 3m on), 2 (n is
+ * 32,768), 3 (the sample out of its range), all at place 0.
  */
 plg_meter_answer plg_meter_sample(plg_meter meter, int64_t *ring, size_t ring_length, int64_t x);
 
 /**
- * Both sums of the samples accepted since the start: A with K = n-2m, B with C = n-3m+1, each with number 1 where it is not yet due.
+ * The meter after a gap in the stream: stretch and window are nought, all else is as it was, so that no second difference and no window spans the gap. Call
+ * it wherever samples are missing, however many; a second call before the next sample changes nothing, nor does one before the first. No ring is read
+ * or written: the next sample call is lent the same one.
+ * Refuses 7 (as a sample call does, but for the ring), place 0.
+ */
+plg_meter_answer plg_meter_gap(plg_meter meter);
+
+/**
+ * Both sums of the samples accepted since the start, each the total over the stretches between the gaps: A with K, B with C, each with number 1 where its
+ * term count is 0.
  * Refuses 7 (as a sample call does, but for the ring), place 0.
  */
 plg_sums_answer plg_meter_report(plg_meter meter);

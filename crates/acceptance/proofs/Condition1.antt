@@ -99,12 +99,14 @@ use Rattle.noise.proofs.noise_of_record.Reads as noise-of-record
 use Rattle.noise.proofs.noise_of_record.Kinds as noise-of-record-kinds
 use Rattle.noise.proofs.bars.bars.Reads as bars
 use Rattle.noise.proofs.bars.bars.Kinds as bars-kinds
-use Rattle.meter.proofs.Unique.{start-single, sample-single, report-single}
-use Rattle.meter.specs.Answers.{startAnswer, sampleAnswer}
+use Rattle.meter.proofs.Unique.{start-single, sample-single, gap-single, report-single}
+use Rattle.meter.specs.Answers.{startAnswer, sampleAnswer, gapAnswer}
 use Rattle.meter.proofs.Meter.start.Reads as meter-start
 use Rattle.meter.proofs.Meter.start.Kinds as meter-start-kinds
 use Rattle.meter.proofs.Meter.sample.Reads as meter-sample
 use Rattle.meter.proofs.Meter.sample.Kinds as meter-sample-kinds
+use Rattle.meter.proofs.Meter.gap.Reads as meter-gap
+use Rattle.meter.proofs.Meter.gap.Kinds as meter-gap-kinds
 use Rattle.meter.proofs.Meter.report.Reads as meter-report
 use Rattle.meter.proofs.Meter.report.Kinds as meter-report-kinds
 use Rattle.phr.proofs.Unique.{read-file-single, write-file-single, read-record-single, write-record-single, read-header-single, good-values-single}
@@ -146,6 +148,7 @@ use Rattle.ploegelster.proofs.phases.plg_remove_drift.Reads as plg-remove-drift
 use Rattle.ploegelster.proofs.floats.plg_float_sums.Reads as plg-float-sums
 use Rattle.ploegelster.proofs.meters.plg_meter_start.Reads as plg-meter-start
 use Rattle.ploegelster.proofs.meters.plg_meter_sample.Reads as plg-meter-sample
+use Rattle.ploegelster.proofs.meters.plg_meter_gap.Reads as plg-meter-gap
 use Rattle.ploegelster.proofs.meters.plg_meter_report.Reads as plg-meter-report
 use Rattle.ploegelster.proofs.files.plg_read_file.Reads as plg-read-file
 use Rattle.ploegelster.proofs.files.plg_write_file.Reads as plg-write-file
@@ -354,16 +357,20 @@ pub meter-sample-settled : Settled 1 meter-sample-kinds.ps meter-sample-kinds.r 
 unfolding sampleAnswer
 meter-sample-settled = (sample-single, λ κs args z w is. rw (is .0, is .1) (λ some. (meter-as-it-came _ _ _ some, ring-as-it-came _ _ _ some)))
 
--- a sample call changes no slot of the ring but its own, n mod 3m
+-- a sample call changes no slot of the ring but its own, s mod 3m
 pub meter-sample-past : Always 1 meter-sample-kinds.ps meter-sample-kinds.r meter-sample.Post
     (λ κs args z w. let x = args .0 in let ring = now (args .1 .0) in let left = w .1 .0 in
-    (i : ℕ) (e : ℤ) → (i ≡ x .n % (3 * x .m) → ⊥) → getD left i e ≡ getD ring i e)
+    (i : ℕ) (e : ℤ) → (i ≡ x .stretch % (3 * x .m) → ⊥) → getD left i e ≡ getD ring i e)
 meter-sample-past κs args z w is = rw (is .1) (other-slots-unchanged _ _ _)
 
 -- an accepted sample stands in that slot
 pub meter-sample-slot : Always 1 meter-sample-kinds.ps meter-sample-kinds.r meter-sample.Post
-    (λ κs args z w. let x = args .0 in let v = args .1 .1 .0 in let left = w .1 .0 in z .number ≡ 0 → at left (x .n % (3 * x .m)) ≡ v)
+    (λ κs args z w. let x = args .0 in let v = args .1 .1 .0 in let left = w .1 .0 in z .number ≡ 0 → at left (x .stretch % (3 * x .m)) ≡ v)
 meter-sample-slot κs args z w is = rw (is .0, is .1) (own-slot-written _ _ _)
+
+pub meter-gap-settled : Settled 0 meter-gap-kinds.ps meter-gap-kinds.r meter-gap.Post (λ κs args z w. let x = args .0 in Refused (z .number) → z .meter ≡ x)
+unfolding gapAnswer
+meter-gap-settled = (gap-single, λ κs args z w is. rw is (meter-as-it-came _ _ _))
 
 -- a 1 for one part is no refusal of the call: the values of that part are noughts
 pub meter-report-settled : Settled 0 meter-report-kinds.ps meter-report-kinds.r meter-report.Post
@@ -561,6 +568,9 @@ plg-meter-start-is = refl
 
 pub plg-meter-sample-is : plg-meter-sample.Post ≡ meter-sample.Post
 plg-meter-sample-is = refl
+
+pub plg-meter-gap-is : plg-meter-gap.Post ≡ meter-gap.Post
+plg-meter-gap-is = refl
 
 pub plg-meter-report-is : plg-meter-report.Post ≡ meter-report.Post
 plg-meter-report-is = refl

@@ -56,6 +56,8 @@ use Rattle.meter.proofs.Meter.start.Reads as meter-start
 use Rattle.meter.proofs.Meter.start.Kinds as meter-start-kinds
 use Rattle.meter.proofs.Meter.sample.Reads as meter-sample
 use Rattle.meter.proofs.Meter.sample.Kinds as meter-sample-kinds
+use Rattle.meter.proofs.Meter.gap.Reads as meter-gap
+use Rattle.meter.proofs.Meter.gap.Kinds as meter-gap-kinds
 use Rattle.meter.proofs.Meter.report.Reads as meter-report
 use Rattle.meter.proofs.Meter.report.Kinds as meter-report-kinds
 use Rattle.phr.proofs.read_file.Reads as read-file
@@ -85,7 +87,7 @@ use Rattle.ploegelster.proofs.drawing.plg_time_dot.Reads as plg-time-dot
 use Rattle.ploegelster.proofs.drawing.plg_time_dot.Kinds as plg-time-dot-kinds
 use Rattle.ploegelster.proofs.drawing.plg_bars.Reads as plg-bars
 use Rattle.ploegelster.proofs.drawing.plg_bars.Kinds as plg-bars-kinds
-use Rattle.acceptance.specs.Grounds.{Grounded, OfRange, OfSize, OfRecord, OfFraction, OfDeviation, OfDot, OfPhases, OfPhasesFrom, OfDifferences, OfDrift, OfRemoval, OfReadings, OfRecordType, OfDrawn, OfType, OfBars, OfStart, OfSample, OfReport, OfFile, OfRecordHeader, OfRecordFile, OfSalvage, OfWriting, OfWritingFrom, OfText, OfTotal}
+use Rattle.acceptance.specs.Grounds.{Grounded, OfRange, OfSize, OfRecord, OfFraction, OfDeviation, OfDot, OfPhases, OfPhasesFrom, OfDifferences, OfDrift, OfRemoval, OfReadings, OfRecordType, OfDrawn, OfType, OfBars, OfStart, OfSample, OfGap, OfReport, OfFile, OfRecordHeader, OfRecordFile, OfSalvage, OfWriting, OfWritingFrom, OfText, OfTotal}
 use Rattle.acceptance.proofs.Grounding.{refusal-grounded}
 use Rattle.acceptance.proofs.RecordGrounds.{size-agrees, range-agrees, record-agrees, multiple-agrees, sum-grounded}
 use Rattle.acceptance.proofs.FigureGrounds.{fraction-agrees, deviation-agrees, fraction-grounded, deviation-grounded, dot-grounded}
@@ -93,7 +95,7 @@ use Rattle.acceptance.proofs.BufferGrounds.{phases-from-agree, phases-a
 use Rattle.acceptance.proofs.ReadingGrounds.{readings-grounded}
 use Rattle.acceptance.proofs.RecordTypeGrounds.{record-type-agrees}
 use Rattle.acceptance.proofs.TypeGrounds.{drawn-grounded, type-agrees, type-grounded, bars-grounded, alpha-bars-grounded}
-use Rattle.acceptance.proofs.MeterGrounds.{start-grounded, sample-grounded, report-grounded}
+use Rattle.acceptance.proofs.MeterGrounds.{start-grounded, sample-grounded, gap-grounded, report-grounded}
 use Rattle.acceptance.proofs.FileGrounds.{reading-grounded, writing-agrees}
 use Rattle.acceptance.proofs.VersionGrounds.{header-grounded, record-reading-grounded, record-writing-agrees}
 use Rattle.acceptance.proofs.SalvageGrounds.{salvage-grounded}
@@ -226,6 +228,10 @@ meter-start-grounds κs args z w is = rw is (start-grounded _ _ _)
 pub meter-sample-grounds : Always 1 meter-sample-kinds.ps meter-sample-kinds.r meter-sample.Post
     (λ κs args z w. let x = args .0 in let ring = now (args .1 .0) in let v = args .1 .1 .0 in Grounded (OfSample x ring v) (z .number) (z .place))
 meter-sample-grounds κs args z w is = rw (is .0) (sample-grounded _ _ _)
+
+pub meter-gap-grounds : Always 0 meter-gap-kinds.ps meter-gap-kinds.r meter-gap.Post
+    (λ κs args z w. let x = args .0 in Grounded (OfGap x) (z .number) (z .place))
+meter-gap-grounds κs args z w is = rw is (gap-grounded _)
 
 pub meter-report-grounds : Always 0 meter-report-kinds.ps meter-report-kinds.r meter-report.Post
     (λ κs args z w. let x = args .0 in Grounded (OfReport x) (z .number) (z .place))

@@ -11,13 +11,13 @@ use lib.ListN.{length}
 use Rattle.laws.proofs.Tests.{never-true, never-false, either-fails, first-true, second-true}
 use Rattle.record.specs.Refusals.{refusedIf, inRange}
 use Rattle.record.specs.declared.Refusal.{Refusal}
-use Rattle.meter.specs.Meter.{factorFits, holdsTogether, slot, ringHolds}
-use Rattle.meter.specs.Answers.{meterAnswer, startRefusal, startAnswer, sampleRefusal, sampleAnswer, reportAnswer}
+use Rattle.meter.specs.Meter.{factorFits, countsFit, holdsTogether, slot, ringHolds}
+use Rattle.meter.specs.Answers.{meterAnswer, startRefusal, startAnswer, sampleRefusal, sampleAnswer, gapAnswer, reportAnswer}
 use Rattle.meter.specs.declared.Meter.{Meter}
 use Rattle.meter.specs.declared.MeterAnswer.{MeterAnswer}
 use Rattle.meter.proofs.TestLaws.{Together, holds-together, Slots, ring-holds, count-refused, sample-refused}
 use Rattle.acceptance.specs.Grounds
-use Rattle.acceptance.specs.Grounds.{Grounded, Broken, BrokenWith, OfStart, OfSample, OfReport}
+use Rattle.acceptance.specs.Grounds.{Grounded, Broken, BrokenWith, OfStart, OfSample, OfGap, OfReport}
 use Rattle.acceptance.proofs.Grounding.{Decided, Stands, Agrees, decide, decide-last, grounded, grounded-answer}
 use Rattle.acceptance.proofs.RecordGrounds.{test-between, test-outside}
 use Rattle.acceptance.proofs.TypeGrounds.{outside-fails}
@@ -36,18 +36,24 @@ module _ (x : Meter) where
   together-unbroken t (Grounds.factor (inl h)) = omega arith
   together-unbroken t (Grounds.factor (inr h)) = omega arith
   together-unbroken t (Grounds.accepted h) = omega arith
+  together-unbroken t (Grounds.stretch h) = omega arith
+  together-unbroken t (Grounds.term-count-k h) = omega arith
+  together-unbroken t (Grounds.term-count-c h) = omega arith
   together-unbroken t (Grounds.window h) = omega arith
   together-unbroken t (Grounds.high-of-a h) = omega arith
   together-unbroken t (Grounds.high-of-b h) = omega arith
 
   fails-broken : holdsTogether x ≡ false → Broken x
-  unfolding holdsTogether factorFits
+  unfolding holdsTogether factorFits countsFit
   fails-broken =
       either-fails _ _ (λ e. Grounds.factor (test-outside 1 10922 (x .m) e))
       (either-fails _ _ (λ e. Grounds.accepted (leb-false (x .n) 32768 e))
+      (either-fails _ _
+      (either-fails _ _ (λ e. Grounds.stretch (leb-false (x .stretch) (x .n) e))
+      (either-fails _ _ (λ e. Grounds.term-count-k (leb-false (x .k) (x .n) e)) (λ e. Grounds.term-count-c (leb-false (x .c) (x .n) e))))
       (either-fails _ _ (λ e. Grounds.window (leb-false (natAbs (x .window)) (x .m * 2 ^ 42) e))
       (either-fails _ _ (λ e. Grounds.high-of-a (ltb-false (x .a .hi) (2 ^ 62) e))
-      (λ e. Grounds.high-of-b (ltb-false (x .b .hi) (2 ^ 62) e)))))
+      (λ e. Grounds.high-of-b (ltb-false (x .b .hi) (2 ^ 62) e))))))
 
   broken-fails : Broken x → holdsTogether x ≡ false
   broken-fails broken = never-true _ (λ t. together-unbroken (holds-together x t) broken)
@@ -68,9 +74,9 @@ module _ (x : Meter) (ring : List ℤ) where
   ring-fails-broken =
       either-fails _ _ (λ e. Grounds.short (leb-false (3 * x .m) (length ring) e))
       (either-fails _ _
-      (λ e. let read = due-fails _ _ e in let due = leb-true (2 * x .m) (x .n) (read .0) in
+      (λ e. let read = due-fails _ _ e in let due = leb-true (2 * x .m) (x .stretch) (read .0) in
       either-fails _ _ (λ f. Grounds.once due (leb-false _ (2 ^ 40) f)) (λ f. Grounds.twice due (leb-false _ (2 ^ 40) f)) (read .1))
-      (λ e. let read = due-fails _ _ e in Grounds.thrice (leb-true (3 * x .m) (x .n) (read .0)) (leb-false _ (2 ^ 40) (read .1))))
+      (λ e. let read = due-fails _ _ e in Grounds.thrice (leb-true (3 * x .m) (x .stretch) (read .0)) (leb-false _ (2 ^ 40) (read .1))))
 
   abbrev good : Bool
   good = holdsTogether x && ringHolds x ring
@@ -138,19 +144,32 @@ module _ (x : Meter) (ring : List ℤ) (v : ℤ) where
   unfolding sampleAnswer meterAnswer
   sample-grounded = grounded-answer sample-agrees (λ (a : MeterAnswer). a .number) (λ a. a .place) _ _ (refl, refl) (refl, refl)
 
--- ---- a report: 7
+-- ---- a gap and a report: 7
 
 module _ (x : Meter) where
-  abbrev reportRefusal : Refusal
-  reportRefusal = refusedIf (not (holdsTogether x)) 7 0
+  abbrev meterRefusal : Refusal
+  meterRefusal = refusedIf (not (holdsTogether x)) 7 0
 
-  report-stands : {number place : ℕ} → OfReport x number place → Stands number place reportRefusal
+  gap-stands : {number place : ℕ} → OfGap x number place → Stands number place meterRefusal
+  gap-stands (Grounds.broken broken) = (λ e. omega arith, rw (broken-fails x broken))
+
+  gap-decided : Decided (OfGap x) meterRefusal
+  gap-decided = decide-last _ 7 0 (omega arith) (λ t. Grounds.broken (fails-broken x (not-true _ t)))
+
+  gap-agrees : Agrees (OfGap x) meterRefusal
+  gap-agrees = record { stands = gap-stands; decided = gap-decided }
+
+  pub gap-grounded : Grounded (OfGap x) (gapAnswer x .number) (gapAnswer x .place)
+  unfolding gapAnswer meterAnswer
+  gap-grounded = grounded-answer gap-agrees (λ (a : MeterAnswer). a .number) (λ a. a .place) _ _ (refl, refl) (refl, refl)
+
+  report-stands : {number place : ℕ} → OfReport x number place → Stands number place meterRefusal
   report-stands (Grounds.broken broken) = (λ e. omega arith, rw (broken-fails x broken))
 
-  report-decided : Decided (OfReport x) reportRefusal
+  report-decided : Decided (OfReport x) meterRefusal
   report-decided = decide-last _ 7 0 (omega arith) (λ t. Grounds.broken (fails-broken x (not-true _ t)))
 
-  report-refuses : (t : Bool) → holdsTogether x ≡ t → (reportAnswer x .number ≡ reportRefusal .number) × (reportAnswer x .place ≡ reportRefusal .place)
+  report-refuses : (t : Bool) → holdsTogether x ≡ t → (reportAnswer x .number ≡ meterRefusal .number) × (reportAnswer x .place ≡ meterRefusal .place)
   unfolding reportAnswer
   report-refuses true e = rw e (refl, refl)
   report-refuses false e = rw e (refl, refl)

@@ -203,12 +203,7 @@ report-part-noughts x = by-test (holdsTogether x)
     answer : Bool → Report
     answer t =
         cond t
-        (record {
-          number = 0;
-          place = 0;
-          allan = partOf (leb (2 * x .m + 1) (x .n)) (value (x .a)) (x .n - 2 * x .m);
-          modified = partOf (leb (3 * x .m) (x .n)) (value (x .b)) (x .n + 1 - 3 * x .m);
-        })
+        (record { number = 0; place = 0; allan = partOf (leb 1 (x .k)) (value (x .a)) (x .k); modified = partOf (leb 1 (x .c)) (value (x .b)) (x .c) })
         (record { number = 7; place = 0; allan = noPart; modified = noPart })
 
     by-test : (t : Bool) → PartsApart (answer t .allan) (answer t .modified)
@@ -232,17 +227,17 @@ module _ (x : Meter) (ring : List ℤ) (v : ℤ) where
   unfolding sampleAnswer meterAnswer ringLeft
   ring-as-it-came some = rw (by-refusal (sampleRefusal x ring v) (λ nothing. rw nothing) some) refl
 
-  -- no slot but that of sample number n is written
-  pub other-slots-unchanged : (i : ℕ) (e : ℤ) → (i ≡ x .n % (3 * x .m) → ⊥) → getD (ringLeft x ring v) i e ≡ getD ring i e
+  -- no slot but the sample's own is written
+  pub other-slots-unchanged : (i : ℕ) (e : ℤ) → (i ≡ x .stretch % (3 * x .m) → ⊥) → getD (ringLeft x ring v) i e ≡ getD ring i e
   unfolding ringLeft ringWith
   other-slots-unchanged i e other = by-number (eqb (sampleRefusal x ring v .number) 0)
     where
-      by-number : (t : Bool) → getD (cond t (set ring (x .n % (3 * x .m)) v) ring) i e ≡ getD ring i e
-      by-number true = getD-set-other ring (x .n % (3 * x .m)) i v e other
+      by-number : (t : Bool) → getD (cond t (set ring (x .stretch % (3 * x .m)) v) ring) i e ≡ getD ring i e
+      by-number true = getD-set-other ring (x .stretch % (3 * x .m)) i v e other
       by-number false = refl
 
   -- and there it stands
-  pub own-slot-written : sampleAnswer x ring v .number ≡ 0 → at (ringLeft x ring v) (x .n % (3 * x .m)) ≡ v
+  pub own-slot-written : sampleAnswer x ring v .number ≡ 0 → at (ringLeft x ring v) (x .stretch % (3 * x .m)) ≡ v
   unfolding sampleAnswer meterAnswer ringLeft ringWith
   own-slot-written answered = by-number (eqb (r .number) 0) refl answered
     where
@@ -251,11 +246,11 @@ module _ (x : Meter) (ring : List ℤ) (v : ℤ) where
 
       by-number : (t : Bool) → eqb (r .number) 0 ≡ t →
           cond {A = MeterAnswer} t (record { number = 0; place = 0; meter = withSample x ring v }) (record { number = r .number; place = r .place; meter = x }) .number ≡ 0 →
-          at (cond t (set ring (x .n % (3 * x .m)) v) ring) (x .n % (3 * x .m)) ≡ v
+          at (cond t (set ring (x .stretch % (3 * x .m)) v) ring) (x .stretch % (3 * x .m)) ≡ v
       by-number true e given =
           let known = let-in-by-number x ring v (eqb-true (r .number) 0 e) in
           let factor = holds-together x (known .meter-holds) .factor-least in
-          getD-set-same ring _ v (pos 0) (slot-inside (x .m) (x .n) (length ring) factor (ring-holds x ring (known .ring-holds) .long))
+          getD-set-same ring _ v (pos 0) (slot-inside (x .m) (x .stretch) (length ring) factor (ring-holds x ring (known .ring-holds) .long))
       by-number false e refused = absurd (eqb-false (r .number) 0 e refused)
 
 -- ---- what is drawn

@@ -4,7 +4,7 @@ use mathlib.Core.Bool.{Bool, true, false, cond}
 use mathlib.Core.List.{List, [], _∷_}
 use mathlib.Core.Logic.{_⊎_, inl, inr}
 use Prim.Native.Nat.{ℕ, zero, suc, _+_, _-_, _*_, _/_, _%_, _^_, _≤_, _<_, _∣_}
-use native.Mathlib.Nat.{zero-add, mul-one, mul-le-mul}
+use native.Mathlib.Nat.{zero-add, add-zero, mul-one, mul-le-mul}
 use native.Mathlib.Numerals.{one-add}
 use native.Mathlib.Omega.{arith}
 use borrow.Author.Tests.{le-leb, lt-leb, ltb-false}
@@ -20,7 +20,7 @@ use lib.Signed.{_≤ℤ_, _<ℤ_}
 use Rattle.laws.specs.Greatest.{Greatest}
 use Rattle.laws.specs.Lists.{at, howMany, written}
 use Rattle.laws.specs.Nearest.{withSign}
-use Rattle.laws.specs.Sums.{sumℤ}
+use Rattle.laws.specs.Sums.{sumℤ, totalOver}
 use Rattle.laws.proofs.Expressions.{Expression, $_, #_, _⊕_, _⊖_, _⊗_, sound, equation, at-most, less-than}
 use Rattle.laws.proofs.ListLaws.{tabulate-entry, written-front}
 use Rattle.laws.proofs.Parts.{equal-by-parts, parts-of-equal}
@@ -42,6 +42,7 @@ use Rattle.drift.proofs.Floors.{floored-at-most, one-more-above, floored-only}
 use Rattle.sums.specs.Published.{difference, allanSum, allanCount, allanDenominator, modifiedSum, modifiedCount, timeDenominator}
 use Rattle.sums.specs.Answers.{allanDemand, modifiedDemand, partOf, allanSumAnswer, modifiedSumAnswer}
 use Rattle.sums.specs.declared.SumAnswer.{SumAnswer}
+use Rattle.sums.specs.declared.Part.{Part}
 use Rattle.sums.proofs.AnswerLaws.{allan-sum-given, modified-sum-given}
 use Rattle.variances.specs.Deviations.{within, deviation}
 use Rattle.variances.specs.Answers.{figureRefusal, allanFractionAnswer, timeFractionAnswer, deviationAnswer, allanDeviationAnswer, timeDeviationAnswer}
@@ -85,7 +86,7 @@ use Rattle.ploegelster.specs.Boundary.{dotKind, toldDot}
 use Rattle.acceptance.specs.Grounds
 use Rattle.acceptance.specs.Grounds.{NoRow, OfDrawn, OfBars}
 use Rattle.acceptance.specs.Promises
-use Rattle.acceptance.specs.Promises.{SumOf, PartsOf, Changed, FractionOf, BackAndForth, GivenBack, DotOf, ToldAs, TypeByTable, NoiseOf, Kappa, HalfOf, BarsOf, DriftRemoved, ConstantDrift, ReadsBack, RecordReadsBack, ReadAlike}
+use Rattle.acceptance.specs.Promises.{SumOf, PartsOf, StretchesOf, Changed, FractionOf, BackAndForth, GivenBack, DotOf, ToldAs, TypeByTable, NoiseOf, Kappa, HalfOf, BarsOf, DriftRemoved, ConstantDrift, ReadsBack, RecordReadsBack, ReadAlike}
 use Rattle.acceptance.proofs.RecordGrounds.{outside-fails}
 
 -- ---- sums, of a record that is not refused
@@ -388,9 +389,26 @@ module _ (m : ℕ) (xs : List Float) (buffer : List ℤ) (nothing : floatRefusal
 
 -- ---- the running meter
 
-pub report-of : (m : ℕ) (h : List ℤ) → PartsOf m h (publishedReport m h .allan) (publishedReport m h .modified)
-unfolding publishedReport
-report-of m h = parts-of m h
+pub report-of : (m : ℕ) (stretches : List (List ℤ)) → StretchesOf m stretches (publishedReport m stretches .allan) (publishedReport m stretches .modified)
+unfolding publishedReport partOf
+report-of m stretches =
+    let K : ℕ = totalOver (allanCount m) stretches in
+    let C : ℕ = totalOver (modifiedCount m) stretches in record {
+      allan-due = λ due. rw (le-leb 1 K due) (refl, (value-of-halves _, refl));
+      allan-not-due = λ nothing. rw (lt-leb 1 K (omega arith)) refl;
+      modified-due = λ due. rw (le-leb 1 C due) (refl, (value-of-halves _, refl));
+      modified-not-due = λ nothing. rw (lt-leb 1 C (omega arith)) refl;
+    }
+
+-- the totals over one stretch are its own sums and counts
+pub one-stretch : {m : ℕ} {xs : List ℤ} {allan modified : Part} → StretchesOf m (xs ∷ []) allan modified → PartsOf m xs allan modified
+unfolding totalOver allanCount modifiedCount
+one-stretch {m} {xs} {allan} {modified} totals = record {
+  allan-due = λ due. let t = totals .allan-due (omega arith) in (t .0, (t .1 .0 ∙ add-zero _, t .1 .1 ∙ add-zero _));
+  allan-not-due = λ short. totals .allan-not-due (omega arith);
+  modified-due = λ due. let t = totals .modified-due (omega arith) in (t .0, (t .1 .0 ∙ add-zero _, t .1 .1 ∙ omega arith));
+  modified-not-due = λ short. totals .modified-not-due (omega arith);
+}
 
 -- ---- the record file
 

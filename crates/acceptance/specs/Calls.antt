@@ -2,12 +2,13 @@
 -- function's own contract allows. And what the calls of a sheet are: each is given the totals as the call before gave them back.
 use mathlib.Core.Path.{_≡_}
 use mathlib.Core.List.{List, [], _∷_, _++_}
-use Prim.Native.Nat.{ℕ}
+use Prim.Native.Nat.{ℕ, _<_}
 use base.Fml.{GName}
 use contract.Lifetimes.{Lfts}
 use denote.Ref.{RefT}
-use lib.IntN.{ℤ}
-use lib.ListN.{take}
+use lib.IntN.{ℤ, pos, _+ℤ_, _*ℤ_}
+use lib.ListN.{length, take}
+use Rattle.laws.specs.Lists.{at}
 use Rattle.laws.specs.Single.{Allows}
 use Rattle.meter.specs.declared.Meter.{Meter}
 use Rattle.meter.specs.declared.MeterAnswer.{MeterAnswer}
@@ -16,6 +17,8 @@ use Rattle.meter.proofs.Meter.start.Reads as start
 use Rattle.meter.proofs.Meter.start.Kinds as start-kinds
 use Rattle.meter.proofs.Meter.sample.Reads as sample
 use Rattle.meter.proofs.Meter.sample.Kinds as sample-kinds
+use Rattle.meter.proofs.Meter.gap.Reads as gap
+use Rattle.meter.proofs.Meter.gap.Kinds as gap-kinds
 use Rattle.meter.proofs.Meter.report.Reads as report
 use Rattle.meter.proofs.Meter.report.Kinds as report-kinds
 use Rattle.record.specs.declared.CountAnswer.{CountAnswer}
@@ -43,32 +46,55 @@ pub data Samples (x : Meter) (ring : List ℤ) (v : ℤ) (z : MeterAnswer) (left
   by-contract : (κs : Lfts 1) (place : ℕ × ℕ) (name : GName) →
       Allows 1 sample-kinds.ps sample-kinds.r sample.Post κs (x, (lent place name ring, (v, tt))) z (tt, (left, (tt, tt))) → Samples x ring v z left
 
+-- a gap call of meter x may answer z
+pub data Gaps (x : Meter) (z : MeterAnswer) : Type 0 where
+  by-contract : (κs : Lfts 0) → Allows 0 gap-kinds.ps gap-kinds.r gap.Post κs (x, tt) z (tt, tt) → Gaps x z
+
 -- a report of meter x may answer z
 pub data Reports (x : Meter) (z : Report) : Type 0 where
   by-contract : (κs : Lfts 0) → Allows 0 report-kinds.ps report-kinds.r report.Post κs (x, tt) z (tt, tt) → Reports x z
 
 -- ---- a sequence of calls
 
--- Trace x ring m h: after some calls x is the meter that the latest gave back, ring its own ring as it was left, m the factor of the latest accepted
--- start (nought before the first), and h the samples accepted since. At the beginning stands any meter, one of all noughts for instance; an accepted
--- start adopts the ring that it is lent; a report gives no meter back.
-pub data Trace : Meter → List ℤ → ℕ → List ℤ → Type 0 where
-  begin : (x : Meter) (ring : List ℤ) → Trace x ring 0 []
-  start-accepted : {x : Meter} {ring h own : List ℤ} {m factor : ℕ} {z : MeterAnswer} →
-      Trace x ring m h → Starts x factor own z → z .number ≡ 0 → Trace (z .meter) own factor []
-  start-refused : {x : Meter} {ring h other : List ℤ} {m factor : ℕ} {z : MeterAnswer} →
-      Trace x ring m h → Starts x factor other z → Refused (z .number) → Trace (z .meter) ring m h
-  sample-accepted : {x : Meter} {ring h left : List ℤ} {m : ℕ} {v : ℤ} {z : MeterAnswer} →
-      Trace x ring m h → Samples x ring v z left → z .number ≡ 0 → Trace (z .meter) left m (h ++ v ∷ [])
-  sample-refused : {x : Meter} {ring h left : List ℤ} {m : ℕ} {v : ℤ} {z : MeterAnswer} →
-      Trace x ring m h → Samples x ring v z left → Refused (z .number) → Trace (z .meter) left m h
-  reported : {x : Meter} {ring h : List ℤ} {m : ℕ} {z : Report} → Trace x ring m h → Reports x z → Trace x ring m h
+-- Trace x ring m h past: after some calls x is the meter that the latest gave back, ring its own ring as it was left, m the factor of the latest accepted
+-- start (nought before the first), h the samples accepted since in the present stretch, and past the stretches that gaps have ended since, the latest first.
+-- At the beginning stands any meter, one of all noughts for instance; an accepted start adopts the ring that it is lent; a gap call is lent no ring, and a
+-- report gives no meter back.
+pub data Trace : Meter → List ℤ → ℕ → List ℤ → List (List ℤ) → Type 0 where
+  begin : (x : Meter) (ring : List ℤ) → Trace x ring 0 [] []
+  start-accepted : {x : Meter} {ring h own : List ℤ} {past : List (List ℤ)} {m factor : ℕ} {z : MeterAnswer} →
+      Trace x ring m h past → Starts x factor own z → z .number ≡ 0 → Trace (z .meter) own factor [] []
+  start-refused : {x : Meter} {ring h other : List ℤ} {past : List (List ℤ)} {m factor : ℕ} {z : MeterAnswer} →
+      Trace x ring m h past → Starts x factor other z → Refused (z .number) → Trace (z .meter) ring m h past
+  sample-accepted : {x : Meter} {ring h left : List ℤ} {past : List (List ℤ)} {m : ℕ} {v : ℤ} {z : MeterAnswer} →
+      Trace x ring m h past → Samples x ring v z left → z .number ≡ 0 → Trace (z .meter) left m (h ++ v ∷ []) past
+  sample-refused : {x : Meter} {ring h left : List ℤ} {past : List (List ℤ)} {m : ℕ} {v : ℤ} {z : MeterAnswer} →
+      Trace x ring m h past → Samples x ring v z left → Refused (z .number) → Trace (z .meter) left m h past
+  gap-accepted : {x : Meter} {ring h : List ℤ} {past : List (List ℤ)} {m : ℕ} {z : MeterAnswer} →
+      Trace x ring m h past → Gaps x z → z .number ≡ 0 → Trace (z .meter) ring m [] (h ∷ past)
+  gap-refused : {x : Meter} {ring h : List ℤ} {past : List (List ℤ)} {m : ℕ} {z : MeterAnswer} →
+      Trace x ring m h past → Gaps x z → Refused (z .number) → Trace (z .meter) ring m h past
+  reported : {x : Meter} {ring h : List ℤ} {past : List (List ℤ)} {m : ℕ} {z : Report} → Trace x ring m h past → Reports x z → Trace x ring m h past
 
--- a run of sample calls from meter x and its ring on: the samples, and the answers
-pub data Run : Meter → List ℤ → List ℤ → List MeterAnswer → Type 0 where
+-- what a live stream asks of a meter: to take a sample, or that there is a gap
+pub data Call : Type 0 where
+  of-sample : ℤ → Call
+  of-gap : Call
+
+-- a run of such calls from meter x and its ring on: the calls, and the answers
+pub data Run : Meter → List ℤ → List Call → List MeterAnswer → Type 0 where
   done : {x : Meter} {ring : List ℤ} → Run x ring [] []
-  next : {x : Meter} {ring left vs : List ℤ} {v : ℤ} {z : MeterAnswer} {zs : List MeterAnswer} →
-      Samples x ring v z left → Run (z .meter) left vs zs → Run x ring (v ∷ vs) (z ∷ zs)
+  next : {x : Meter} {ring left : List ℤ} {calls : List Call} {v : ℤ} {z : MeterAnswer} {zs : List MeterAnswer} →
+      Samples x ring v z left → Run (z .meter) left calls zs → Run x ring (of-sample v ∷ calls) (z ∷ zs)
+  across : {x : Meter} {ring : List ℤ} {calls : List Call} {z : MeterAnswer} {zs : List MeterAnswer} →
+      Gaps x z → Run (z .meter) ring calls zs → Run x ring (of-gap ∷ calls) (z ∷ zs)
+
+-- two streams with gaps at the same places: stretch by stretch as many samples, and sample i of a stretch in the one is that in the other, an offset and
+-- a rate times i more; offset and rate are each stretch's own
+pub data Alike : List (List ℤ) → List (List ℤ) → Type 0 where
+  no-stretch : Alike [] []
+  one-more : {h h′ : List ℤ} {past past′ : List (List ℤ)} (offset rate : ℤ) → length h′ ≡ length h →
+      ((i : ℕ) → i < length h → at h′ i ≡ at h i +ℤ (offset +ℤ rate *ℤ pos i)) → Alike past past′ → Alike (h ∷ past) (h′ ∷ past′)
 
 -- ---- the calls of a sheet
 

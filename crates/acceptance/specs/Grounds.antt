@@ -188,17 +188,20 @@ pub data OfBars (r : ℕ) (alpha : ℤ) (M : ℕ) : ℕ → ℕ → Type 0 where
 pub data Broken (x : Meter) : Type 0 where
   factor : Outside 1 10922 (x .m) → Broken x
   accepted : 32768 < x .n → Broken x
+  stretch : x .n < x .stretch → Broken x
+  term-count-k : x .n < x .k → Broken x
+  term-count-c : x .n < x .c → Broken x
   window : x .m * 2 ^ 42 < natAbs (x .window) → Broken x
   high-of-a : 2 ^ 62 ≤ x .a .hi → Broken x
   high-of-b : 2 ^ 62 ≤ x .b .hi → Broken x
 
--- the same for a sample call, with its ring: sample number k lies in slot k mod 3m
+-- the same for a sample call, with its ring: sample number k of a stretch lies in slot k mod 3m
 pub data BrokenWith (x : Meter) (ring : List ℤ) : Type 0 where
   meter : Broken x → BrokenWith x ring
   short : length ring < 3 * x .m → BrokenWith x ring
-  once : 2 * x .m ≤ x .n → OutOfRange ring ((x .n - x .m) % (3 * x .m)) → BrokenWith x ring
-  twice : 2 * x .m ≤ x .n → OutOfRange ring ((x .n - 2 * x .m) % (3 * x .m)) → BrokenWith x ring
-  thrice : 3 * x .m ≤ x .n → OutOfRange ring ((x .n - 3 * x .m) % (3 * x .m)) → BrokenWith x ring
+  once : 2 * x .m ≤ x .stretch → OutOfRange ring ((x .stretch - x .m) % (3 * x .m)) → BrokenWith x ring
+  twice : 2 * x .m ≤ x .stretch → OutOfRange ring ((x .stretch - 2 * x .m) % (3 * x .m)) → BrokenWith x ring
+  thrice : 3 * x .m ≤ x .stretch → OutOfRange ring ((x .stretch - 3 * x .m) % (3 * x .m)) → BrokenWith x ring
 
 -- Meter::start; never 7
 pub data OfStart (m : ℕ) (ring : List ℤ) : ℕ → ℕ → Type 0 where
@@ -210,6 +213,10 @@ pub data OfSample (x : Meter) (ring : List ℤ) (v : ℤ) : ℕ → ℕ → Type
   broken : BrokenWith x ring → OfSample x ring v 7 0
   many : (BrokenWith x ring → ⊥) → x .n ≡ 32768 → OfSample x ring v 2 0
   range : (BrokenWith x ring → ⊥) → x .n < 32768 → 2 ^ 40 < natAbs v → OfSample x ring v 3 0
+
+-- Meter::gap
+pub data OfGap (x : Meter) : ℕ → ℕ → Type 0 where
+  broken : Broken x → OfGap x 7 0
 
 -- Meter::report
 pub data OfReport (x : Meter) : ℕ → ℕ → Type 0 where

@@ -11,11 +11,12 @@ use lib.ListN.{length, take}
 use lib.Signed.{_≤ℤ_, _<ℤ_}
 use Rattle.laws.specs.Greatest.{Greatest}
 use Rattle.laws.specs.Lists.{at}
+use Rattle.laws.specs.Sums.{totalOver}
 use Rattle.wide.specs.Wide.{value}
 use Rattle.wide.specs.declared.Wide.{Wide}
 use Rattle.record.specs.Refusals.{refused}
 use Rattle.record.specs.declared.CountAnswer.{CountAnswer}
-use Rattle.sums.specs.Published.{allanSum, modifiedSum}
+use Rattle.sums.specs.Published.{allanSum, allanCount, modifiedSum, modifiedCount}
 use Rattle.sums.specs.declared.Part.{Part}
 use Rattle.variances.specs.Deviations.{within}
 use Rattle.readings.specs.Readings.{Exactly}
@@ -47,6 +48,15 @@ pub record PartsOf (m : ℕ) (xs : List ℤ) (allan modified : Part) : Type 0 wh
   pub allan-not-due : length xs < 2 * m + 1 → allan .number ≡ 1
   pub modified-due : 3 * m ≤ length xs → (modified .number ≡ 0) × SumOf (modifiedSum m xs) (length xs - 3 * m + 1) (modified .sum) (modified .count)
   pub modified-not-due : length xs < 3 * m → modified .number ≡ 1
+
+-- the totals over stretches of samples, each worked alone: A with K and B with C, each apart; 1 for one that has no term
+pub record StretchesOf (m : ℕ) (stretches : List (List ℤ)) (allan modified : Part) : Type 0 where
+  pub allan-due : 1 ≤ totalOver (allanCount m) stretches →
+      (allan .number ≡ 0) × SumOf (totalOver (allanSum m) stretches) (totalOver (allanCount m) stretches) (allan .sum) (allan .count)
+  pub allan-not-due : totalOver (allanCount m) stretches ≡ 0 → allan .number ≡ 1
+  pub modified-due : 1 ≤ totalOver (modifiedCount m) stretches →
+      (modified .number ≡ 0) × SumOf (totalOver (modifiedSum m) stretches) (totalOver (modifiedCount m) stretches) (modified .sum) (modified .count)
+  pub modified-not-due : totalOver (modifiedCount m) stretches ≡ 0 → modified .number ≡ 1
 
 -- ---- float readings
 

@@ -64,6 +64,9 @@ fn nothing() -> Meter {
     Meter {
         m: 0,
         n: 0,
+        stretch: 0,
+        k: 0,
+        c: 0,
         a: Wide { hi: 0, lo: 0 },
         b: Wide { hi: 0, lo: 0 },
         window: 0,

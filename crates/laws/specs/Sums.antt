@@ -1,4 +1,5 @@
--- Sums over a range, of naturals and of signed numbers, and the square of a signed number.
+-- Sums over a range, of naturals and of signed numbers, the total over a list, and the square of a signed number.
+use mathlib.Core.List.{List, [], _∷_}
 use Prim.Native.Nat.{ℕ, zero, suc, _+_, _*_}
 use lib.IntN.{ℤ, pos, natAbs, _+ℤ_}
 
@@ -11,6 +12,11 @@ sum (suc n) f = sum n f + f n
 unfoldable pub sumℤ : ℕ → (ℕ → ℤ) → ℤ
 sumℤ zero f = pos 0
 sumℤ (suc n) f = sumℤ n f +ℤ f n
+
+-- f x for each entry x of a list, added up
+unfoldable pub totalOver : {A : Type 0} → (A → ℕ) → List A → ℕ
+totalOver f [] = 0
+totalOver f (x ∷ xs) = f x + totalOver f xs
 
 -- z squared: no square is below nought
 abbrev pub square : ℤ → ℕ

@@ -18,9 +18,9 @@ use Rattle.wide.specs.declared.Wide.{Wide}
 use Rattle.wide.proofs.WideLaws.{halves-of-value}
 use Rattle.record.specs.Refusals.{none, refused}
 use Rattle.sums.proofs.TotalLaws.{read}
-use Rattle.meter.specs.Meter.{factorFits, holdsTogether, started, withSample, ringWith}
+use Rattle.meter.specs.Meter.{factorFits, holdsTogether, started, withSample, ringWith, withGap}
 use Rattle.sums.specs.Answers.{partOf, noPart}
-use Rattle.meter.specs.Answers.{meterAnswer, startRefusal, startAnswer, sampleRefusal, sampleAnswer, ringLeft, reportAnswer}
+use Rattle.meter.specs.Answers.{meterAnswer, startRefusal, startAnswer, sampleRefusal, sampleAnswer, ringLeft, gapAnswer, reportAnswer}
 use Rattle.meter.specs.declared.Meter.{Meter}
 use Rattle.meter.specs.declared.MeterAnswer.{MeterAnswer}
 use Rattle.sums.specs.declared.Part.{Part}
@@ -29,23 +29,15 @@ use Rattle.meter.proofs.TestLaws.{slot-inside, slots-lie-where-let-in}
 
 -- ---- a part of a report
 
--- a sum with its count
-abbrev pub duePart : Wide → ℕ → Part
-duePart s count = record { number = 0; sum = s; count = count }
-
--- a part that is not yet due
-abbrev pub notDue : Part
-notDue = record { number = 1; sum = halves 0; count = 0 }
-
-module _ (fewest n : ℕ) (s : Wide) (count : ℕ) where
-  pub part-is-due : fewest ≤ n → s .lo < 2 ^ 64 → partOf (leb fewest n) (value s) count ≡ duePart s count
+module _ (s : Wide) (count : ℕ) where
+  pub part-given : 1 ≤ count → s .lo < 2 ^ 64 → _≡_ {A = Part} (record { number = 0; sum = s; count = count }) (partOf (leb 1 count) (value s) count)
   unfolding partOf
-  part-is-due enough low =
-      choice-true (duePart (halves (value s)) count) notDue (le-leb fewest n enough) ∙ ap (λ (t : Wide). duePart t count) (halves-of-value s low)
+  part-given some low =
+      (λ i. record { number = 0; sum = sym (halves-of-value s low) i; count = count }) ∙ sym (choice-true _ _ (le-leb 1 count some))
 
-  pub part-is-not-due : n < fewest → partOf (leb fewest n) (value s) count ≡ notDue
+  pub part-refused : count < 1 → _≡_ {A = Part} (record { number = 1; sum = halves 0; count = 0 }) (partOf (leb 1 count) (value s) count)
   unfolding partOf
-  part-is-not-due few = choice-false (duePart (halves (value s)) count) notDue (lt-leb fewest n few)
+  part-refused none = sym (choice-false _ _ (lt-leb 1 count none))
 
 -- ---- a report
 
@@ -56,8 +48,7 @@ module _ (x : Meter) where
   report-refused e noughts-are = (λ i. record { number = 7; place = 0; allan = noughts-are i; modified = noughts-are i }) ∙ sym (choice-false _ _ e)
 
   pub report-given : holdsTogether x ≡ true → {allan modified : Part} →
-      allan ≡ partOf (leb (2 * x .m + 1) (x .n)) (value (x .a)) (x .n - 2 * x .m) →
-      modified ≡ partOf (leb (3 * x .m) (x .n)) (value (x .b)) (x .n + 1 - 3 * x .m) →
+      allan ≡ partOf (leb 1 (x .k)) (value (x .a)) (x .k) → modified ≡ partOf (leb 1 (x .c)) (value (x .b)) (x .c) →
       _≡_ {A = Report} (record { number = 0; place = 0; allan = allan; modified = modified }) (reportAnswer x)
   unfolding reportAnswer
   report-given e allan-is modified-is = (λ i. record { number = 0; place = 0; allan = allan-is i; modified = modified-is i }) ∙ sym (choice-true _ _ e)
@@ -90,6 +81,17 @@ module _ (old : Meter) (m : ℕ) (ring : List ℤ) where
     unfolding startAnswer meterAnswer startRefusal factorFits
     start-given h new-is = ap givenAnswer new-is ∙ simp (le-leb 1 m least, le-leb m 10922 most, le-ltb (length ring) (3 * m) h)
 
+-- ---- a gap
+
+module _ (x : Meter) where
+  pub gap-refused : holdsTogether x ≡ false → refusedAnswer 7 x ≡ gapAnswer x
+  unfolding gapAnswer meterAnswer
+  gap-refused e = sym (simp e)
+
+  pub gap-given : holdsTogether x ≡ true → {new : Meter} → new ≡ withGap x → givenAnswer new ≡ gapAnswer x
+  unfolding gapAnswer meterAnswer
+  gap-given e new-is = ap givenAnswer new-is ∙ sym (simp e)
+
 -- ---- a sample call
 
 -- number is what the tests gave
@@ -115,10 +117,10 @@ module _ (x : Meter) (ring : List ℤ) (v : ℤ) (fits : SFits w64 v) {number : 
     sample-unrefused : sampleRefusal x ring v ≡ none
     sample-unrefused = refusal-is ∙ ap (λ (t : ℕ). refused t 0) refuses-nothing
 
-    pub own-slot-inside : (1 ≤ x .m) × (x .m ≤ 10922) × (x .n % (3 * x .m) < length ring)
+    pub own-slot-inside : (1 ≤ x .m) × (x .m ≤ 10922) × (x .stretch % (3 * x .m) < length ring)
     own-slot-inside =
-        let lies = slots-lie-where-let-in x ring v sample-unrefused in
-        (lies .0, lies .1, slot-inside (x .m) (x .n) (length ring) (lies .0) (lies .2))
+        let lies = slots-lie-where-let-in x ring v sample-unrefused {back = 0} (omega arith) (omega arith) in
+        (lies .0, lies .1, slot-inside (x .m) (x .stretch) (length ring) (lies .0) (lies .2))
 
     pub read-sample-unrefused : sampleRefusal x ring (read v) ≡ none
     read-sample-unrefused = ap (sampleRefusal x ring) sample-read ∙ sample-unrefused
@@ -127,6 +129,6 @@ module _ (x : Meter) (ring : List ℤ) (v : ℤ) (fits : SFits w64 v) {number : 
     unfolding sampleAnswer meterAnswer
     sample-call-given new-is = ap givenAnswer (new-is ∙ ap (withSample x ring) sample-read) ∙ sym (simp sample-unrefused)
 
-    pub ring-written : set ring (x .n % (3 * x .m)) (read v) ≡ ringLeft x ring v
+    pub ring-written : set ring (x .stretch % (3 * x .m)) (read v) ≡ ringLeft x ring v
     unfolding ringLeft ringWith
-    ring-written = ap (set ring (x .n % (3 * x .m))) sample-read ∙ sym (simp sample-unrefused)
+    ring-written = ap (set ring (x .stretch % (3 * x .m))) sample-read ∙ sym (simp sample-unrefused)

@@ -42,7 +42,7 @@ module _ (a b c : ℤ) (within : (natAbs a ≤ 2 ^ 40) × (natAbs b ≤ 2 ^ 40) 
 abbrev pub newOf : Meter → List ℤ → ℤ → ℤ → ℤ → Expression
 newOf x ring v y z = differenceOf (ofZ w64 v) v (ofZ w64 y) (oneBack x ring) (ofZ w64 z) (twoBack x ring)
 
-module _ (x : Meter) (ring : List ℤ) (v : ℤ) (unrefused : sampleRefusal x ring v ≡ none) (due : 2 * x .m ≤ x .n) where
+module _ (x : Meter) (ring : List ℤ) (v : ℤ) (unrefused : sampleRefusal x ring v ≡ none) (due : 2 * x .m ≤ x .stretch) where
   new-samples-within : (natAbs v ≤ 2 ^ 40) × (natAbs (oneBack x ring) ≤ 2 ^ 40) × (natAbs (twoBack x ring) ≤ 2 ^ 40)
   new-samples-within =
       let known = let-in x ring v unrefused in
@@ -66,7 +66,7 @@ abbrev pub oldOf : Meter → List ℤ → ℤ → ℤ → ℤ → Expression
 oldOf x ring w y z =
     differenceOf (ofZ w64 w) (oneBack x ring) (ofZ w64 y) (twoBack x ring) (ofZ w64 z) (threeBack x ring)
 
-module _ (x : Meter) (ring : List ℤ) (sound : ringHolds x ring ≡ true) (full : 3 * x .m ≤ x .n) where
+module _ (x : Meter) (ring : List ℤ) (sound : ringHolds x ring ≡ true) (full : 3 * x .m ≤ x .stretch) where
   old-samples-within : (natAbs (oneBack x ring) ≤ 2 ^ 40) × (natAbs (twoBack x ring) ≤ 2 ^ 40) × (natAbs (threeBack x ring) ≤ 2 ^ 40)
   old-samples-within =
       let slots = ring-holds x ring sound in
@@ -89,7 +89,7 @@ module _ (x : Meter) (ring : List ℤ) (sound : ringHolds x ring ≡ true) (full
 
 -- with the difference that leaves it let go once the window is full
 abbrev pub windowWith : Meter → List ℤ → ℤ → ℤ
-windowWith x ring d = cond (leb (3 * x .m) (x .n)) (x .window +ℤ d -ℤ oldDifference x ring) (x .window +ℤ d)
+windowWith x ring d = cond (leb (3 * x .m) (x .stretch)) (x .window +ℤ d -ℤ oldDifference x ring) (x .window +ℤ d)
 
 -- the window that is not yet full; and the full one, where z is what the call gave
 abbrev pub grownOf : Meter → ℤ → Expression
@@ -105,10 +105,10 @@ module _ (x : Meter) (together : holdsTogether x ≡ true) (d : ℤ) (d-within :
   pub window-grows-fits : Fit w64 (grownOf x d)
   window-grows-fits = omega (arith, window-small x together, size-is (x .window), size-is d)
 
-  pub window-grows : (ring : List ℤ) → x .n < 3 * x .m → machine w64 (grownOf x d) ≡ windowWith x ring d
-  window-grows ring few = machine-is w64 (grownOf x d) window-grows-fits ∙ sym (choice-false _ _ (lt-leb (3 * x .m) (x .n) few))
+  pub window-grows : (ring : List ℤ) → x .stretch < 3 * x .m → machine w64 (grownOf x d) ≡ windowWith x ring d
+  window-grows ring few = machine-is w64 (grownOf x d) window-grows-fits ∙ sym (choice-false _ _ (lt-leb (3 * x .m) (x .stretch) few))
 
-  module _ (ring : List ℤ) (sound : ringHolds x ring ≡ true) (full : 3 * x .m ≤ x .n) {z : ℤ} (z-is : z ≡ oldDifference x ring) where
+  module _ (ring : List ℤ) (sound : ringHolds x ring ≡ true) (full : 3 * x .m ≤ x .stretch) {z : ℤ} (z-is : z ≡ oldDifference x ring) where
     pub window-slides-fits : Fit w64 (slidOf x ring d z)
     window-slides-fits =
         omega (
@@ -122,7 +122,7 @@ module _ (x : Meter) (together : holdsTogether x ≡ true) (d : ℤ) (d-within :
         )
 
     pub window-slides : machine w64 (slidOf x ring d z) ≡ windowWith x ring d
-    window-slides = machine-is w64 (slidOf x ring d z) window-slides-fits ∙ sym (choice-true _ _ (le-leb (3 * x .m) (x .n) full))
+    window-slides = machine-is w64 (slidOf x ring d z) window-slides-fits ∙ sym (choice-true _ _ (le-leb (3 * x .m) (x .stretch) full))
 
 -- ---- squares in two halves
 
@@ -139,6 +139,14 @@ sum-takes-square total high low z small {y} y-is next-is =
 
 -- ---- the meter with one sample more
 
+-- the factor, and one sample more in all and in the stretch, with the term counts, sums and window that are given
+abbrev newMeter : Meter → ℕ → ℕ → Wide → Wide → ℤ → Meter
+newMeter x k c a b window = record { m = x .m; n = x .n + 1; stretch = x .stretch + 1; k = k; c = c; a = a; b = b; window = window }
+
+-- the same as the code leaves it, which holds the window in a word
+abbrev pub meterOf : Meter → ℕ → ℕ → Wide → Wide → ℤ → Meter
+meterOf x k c a b window = newMeter x k c a b (read window)
+
 module _ (x : Meter) (ring : List ℤ) (v : ℤ) (unrefused : sampleRefusal x ring v ≡ none) where
   abbrev meter-holds : holdsTogether x ≡ true
   meter-holds = let-in x ring v unrefused .meter-holds
@@ -146,39 +154,47 @@ module _ (x : Meter) (ring : List ℤ) (v : ℤ) (unrefused : sampleRefusal x ri
   abbrev together : Together x
   together = holds-together x meter-holds
 
-  pub next-fits : (x .n < 32768) × (x .m ≤ 10922)
-  next-fits = (let-in x ring v unrefused .room, together .factor-most)
+  pub next-fits : (x .n < 32768) × (x .stretch ≤ x .n) × (x .k ≤ x .n) × (x .c ≤ x .n) × (x .m ≤ 10922)
+  next-fits = (let-in x ring v unrefused .room, together .stretch-within, together .k-within, together .c-within, together .factor-most)
 
   -- before there is a second difference a sample is counted
-  module _ (few : x .n < 2 * x .m) where
+  module _ (few : x .stretch < 2 * x .m) where
     window-stays : read (x .window) ≡ newWindow x ring v
     unfolding newWindow
     window-stays =
         machine-is w64 ($ (x .window)) (small-fits (x .window) (omega (arith, window-small x meter-holds)))
-        ∙ simp (lt-leb (3 * x .m) (x .n) (omega arith), lt-leb (2 * x .m) (x .n) few)
+        ∙ simp (lt-leb (3 * x .m) (x .stretch) (omega arith), lt-leb (2 * x .m) (x .stretch) few)
 
     a-stays : x .a ≡ withSample x ring v .a
     unfolding withSample
-    a-stays = sym (choice-false _ _ (lt-leb (2 * x .m) (x .n) few))
+    a-stays = sym (choice-false _ _ (lt-leb (2 * x .m) (x .stretch) few))
 
     b-stays : x .b ≡ withSample x ring v .b
     unfolding withSample
-    b-stays = sym (choice-false _ _ (lt-leb (3 * x .m) (x .n + 1) (omega (arith, together .factor-least))))
+    b-stays = sym (choice-false _ _ (lt-leb (3 * x .m) (x .stretch + 1) (omega (arith, together .factor-least))))
 
-    pub sample-counted : _≡_ {A = Meter} (record { m = x .m; n = x .n + 1; a = x .a; b = x .b; window = read (x .window) }) (withSample x ring v)
+    k-stays : x .k ≡ withSample x ring v .k
     unfolding withSample
-    sample-counted = λ i. record { m = x .m; n = x .n + 1; a = a-stays i; b = b-stays i; window = window-stays i }
+    k-stays = sym (choice-false _ _ (lt-leb (2 * x .m) (x .stretch) few))
 
-  module _ (due : 2 * x .m ≤ x .n) where
+    c-stays : x .c ≡ withSample x ring v .c
+    unfolding withSample
+    c-stays = sym (choice-false _ _ (lt-leb (3 * x .m) (x .stretch + 1) (omega (arith, together .factor-least))))
+
+    pub sample-counted : meterOf x (x .k) (x .c) (x .a) (x .b) (x .window) ≡ withSample x ring v
+    unfolding withSample
+    sample-counted = λ i. newMeter x (k-stays i) (c-stays i) (a-stays i) (b-stays i) (window-stays i)
+
+  module _ (due : 2 * x .m ≤ x .stretch) where
     -- the window is that of the definition, and its square is small
     window-with-is : windowWith x ring (newDifference x ring v) ≡ newWindow x ring v
     unfolding newWindow
-    window-with-is = simp (le-leb (2 * x .m) (x .n) due)
+    window-with-is = simp (le-leb (2 * x .m) (x .stretch) due)
 
     window-with-within : natAbs (newWindow x ring v) ≤ 2 ^ 56
-    window-with-within = rw (← window-with-is) (by-count (leb (3 * x .m) (x .n)) refl)
+    window-with-within = rw (← window-with-is) (by-count (leb (3 * x .m) (x .stretch)) refl)
       where
-        by-count : (full : Bool) → leb (3 * x .m) (x .n) ≡ full →
+        by-count : (full : Bool) → leb (3 * x .m) (x .stretch) ≡ full →
             natAbs (cond full (x .window +ℤ newDifference x ring v -ℤ oldDifference x ring) (x .window +ℤ newDifference x ring v)) ≤ 2 ^ 56
         by-count true t =
             size-within ($ (x .window) ⊕ $ newDifference x ring v ⊖ $ oldDifference x ring) (2 ^ 56)
@@ -186,7 +202,7 @@ module _ (x : Meter) (ring : List ℤ) (v : ℤ) (unrefused : sampleRefusal x ri
               arith,
               window-small x meter-holds,
               new-difference-within x ring v unrefused due,
-              old-difference-within x ring (let-in x ring v unrefused .ring-holds) (leb-true (3 * x .m) (x .n) t),
+              old-difference-within x ring (let-in x ring v unrefused .ring-holds) (leb-true (3 * x .m) (x .stretch) t),
               size-is (x .window),
               size-is (newDifference x ring v),
               size-is (oldDifference x ring),
@@ -218,26 +234,38 @@ module _ (x : Meter) (ring : List ℤ) (v : ℤ) (unrefused : sampleRefusal x ri
         unfolding withSample
         a-grows =
             sum-takes-square (x .a) (together .a-below) a-low (newDifference x ring v) (omega (arith, new-difference-within x ring v unrefused due)) y-is more-is
-            ∙ sym (choice-true _ _ (le-leb (2 * x .m) (x .n) due))
+            ∙ sym (choice-true _ _ (le-leb (2 * x .m) (x .stretch) due))
+
+        k-grows : x .k + 1 ≡ withSample x ring v .k
+        unfolding withSample
+        k-grows = sym (choice-true _ _ (le-leb (2 * x .m) (x .stretch) due))
 
         -- before the window is full A takes in a square
-        module _ (few : x .n + 1 < 3 * x .m) where
+        module _ (few : x .stretch + 1 < 3 * x .m) where
           b-waits : x .b ≡ withSample x ring v .b
           unfolding withSample
-          b-waits = sym (choice-false _ _ (lt-leb (3 * x .m) (x .n + 1) few))
+          b-waits = sym (choice-false _ _ (lt-leb (3 * x .m) (x .stretch + 1) few))
 
-          pub difference-taken-in : _≡_ {A = Meter} (record { m = x .m; n = x .n + 1; a = more; b = x .b; window = read w }) (withSample x ring v)
+          c-waits : x .c ≡ withSample x ring v .c
           unfolding withSample
-          difference-taken-in = λ i. record { m = x .m; n = x .n + 1; a = a-grows i; b = b-waits i; window = window-read i }
+          c-waits = sym (choice-false _ _ (lt-leb (3 * x .m) (x .stretch + 1) few))
+
+          pub difference-taken-in : meterOf x (x .k + 1) (x .c) more (x .b) w ≡ withSample x ring v
+          unfolding withSample
+          difference-taken-in = λ i. newMeter x (k-grows i) (c-waits i) (a-grows i) (b-waits i) (window-read i)
 
         -- from then on B takes in a square too
-        module _ (full : 3 * x .m ≤ x .n + 1) (b-low : x .b .lo < 2 ^ 64) {last : Wide} (last-is : last ≡ wideSum (x .b) (halves (square (read w)))) where
+        module _ (full : 3 * x .m ≤ x .stretch + 1) (b-low : x .b .lo < 2 ^ 64) {last : Wide} (last-is : last ≡ wideSum (x .b) (halves (square (read w)))) where
           b-grows : last ≡ withSample x ring v .b
           unfolding withSample
           b-grows =
               sum-takes-square (x .b) (together .b-below) b-low (newWindow x ring v) window-with-within window-is last-is
-              ∙ sym (choice-true _ _ (le-leb (3 * x .m) (x .n + 1) full))
+              ∙ sym (choice-true _ _ (le-leb (3 * x .m) (x .stretch + 1) full))
 
-          pub window-taken-in : _≡_ {A = Meter} (record { m = x .m; n = x .n + 1; a = more; b = last; window = read w }) (withSample x ring v)
+          c-grows : x .c + 1 ≡ withSample x ring v .c
           unfolding withSample
-          window-taken-in = λ i. record { m = x .m; n = x .n + 1; a = a-grows i; b = b-grows i; window = window-read i }
+          c-grows = sym (choice-true _ _ (le-leb (3 * x .m) (x .stretch + 1) full))
+
+          pub window-taken-in : meterOf x (x .k + 1) (x .c + 1) more last w ≡ withSample x ring v
+          unfolding withSample
+          window-taken-in = λ i. newMeter x (k-grows i) (c-grows i) (a-grows i) (b-grows i) (window-read i)

@@ -19,7 +19,7 @@ use Rattle.record.specs.Refusals.{none, refused, refusedIf, _then_, inRange}
 use Rattle.record.specs.declared.Refusal.{Refusal}
 use Rattle.record.proofs.RangeLaws.{below-low-end, above-low-end, sample-bounded}
 use Rattle.record.proofs.RefusalLaws.{first-refuses-nothing, rest-refuses-nothing, test-fails}
-use Rattle.meter.specs.Meter.{factorFits, holdsTogether, slot, ringHolds}
+use Rattle.meter.specs.Meter.{factorFits, countsFit, holdsTogether, slot, ringHolds}
 use Rattle.meter.specs.Answers.{sampleRefusal}
 use Rattle.meter.specs.declared.Meter.{Meter}
 
@@ -56,6 +56,9 @@ pub record Together (x : Meter) : Type 0 where
   pub factor-least : 1 ≤ x .m
   pub factor-most : x .m ≤ 10922
   pub not-too-many : x .n ≤ 32768
+  pub stretch-within : x .stretch ≤ x .n
+  pub k-within : x .k ≤ x .n
+  pub c-within : x .c ≤ x .n
   pub window-within : natAbs (x .window) ≤ x .m * 2 ^ 42
   pub a-below : x .a .hi < 2 ^ 62
   pub b-below : x .b .hi < 2 ^ 62
@@ -69,6 +72,20 @@ module _ (x : Meter) where
 
   pub high-of-b-decides : x .a .hi < 2 ^ 62 → halvesBelow ≡ ltb (x .b .hi) (2 ^ 62)
   high-of-b-decides h = simp (lt-ltb (x .a .hi) (2 ^ 62) h)
+
+  -- the counts, in the order of the code
+  pub stretch-fails : x .n < x .stretch → countsFit x ≡ false
+  unfolding countsFit
+  stretch-fails h = simp (lt-leb (x .stretch) (x .n) h)
+
+  module _ (stretch : x .stretch ≤ x .n) where
+    pub k-fails : x .n < x .k → countsFit x ≡ false
+    unfolding countsFit
+    k-fails h = simp (le-leb (x .stretch) (x .n) stretch, lt-leb (x .k) (x .n) h)
+
+    pub c-decides : x .k ≤ x .n → countsFit x ≡ leb (x .c) (x .n)
+    unfolding countsFit
+    c-decides h = simp (le-leb (x .stretch) (x .n) stretch, le-leb (x .k) (x .n) h)
 
   pub factor-nought-fails : x .m < 1 → holdsTogether x ≡ false
   unfolding holdsTogether factorFits
@@ -84,24 +101,37 @@ module _ (x : Meter) where
       unfolding holdsTogether factorFits
       too-many-fails h = simp (le-leb 1 (x .m) least, le-leb (x .m) 10922 most, lt-leb (x .n) 32768 h)
 
-      module _ (few : x .n ≤ 32768) {within : Bool} (window : leb (natAbs (x .window)) (x .m * 2 ^ 42) ≡ within) where
-        pub window-and-halves-decide : holdsTogether x ≡ (within && halvesBelow)
+      module _ (few : x .n ≤ 32768) where
+        pub counts-fail : countsFit x ≡ false → holdsTogether x ≡ false
         unfolding holdsTogether factorFits
-        window-and-halves-decide = simp (le-leb 1 (x .m) least, le-leb (x .m) 10922 most, le-leb (x .n) 32768 few, window)
+        counts-fail e = simp (le-leb 1 (x .m) least, le-leb (x .m) 10922 most, le-leb (x .n) 32768 few, e)
+
+        module _ (counts : countsFit x ≡ true) {within : Bool} (window : leb (natAbs (x .window)) (x .m * 2 ^ 42) ≡ within) where
+          pub window-and-halves-decide : holdsTogether x ≡ (within && halvesBelow)
+          unfolding holdsTogether factorFits
+          window-and-halves-decide = simp (le-leb 1 (x .m) least, le-leb (x .m) 10922 most, le-leb (x .n) 32768 few, counts, window)
 
   pub holds-together : holdsTogether x ≡ true → Together x
-  unfolding holdsTogether factorFits
+  unfolding holdsTogether factorFits countsFit
   holds-together e =
       let window = leb (natAbs (x .window)) (x .m * 2 ^ 42) in
       let fits = leb 1 (x .m) && leb (x .m) 10922 in
       let factor = first-true fits _ e in
       let after-factor = second-true fits _ e in
       let after-count = second-true (leb (x .n) 32768) _ after-factor in
-      let halves = second-true window _ after-count in record {
+      let terms = leb (x .k) (x .n) && leb (x .c) (x .n) in
+      let counts = leb (x .stretch) (x .n) && terms in
+      let all-counts = first-true counts _ after-count in
+      let both-terms = second-true (leb (x .stretch) (x .n)) terms all-counts in
+      let after-counts = second-true counts _ after-count in
+      let halves = second-true window _ after-counts in record {
         factor-least = leb-true 1 (x .m) (first-true (leb 1 (x .m)) _ factor);
         factor-most = leb-true (x .m) 10922 (second-true (leb 1 (x .m)) _ factor);
         not-too-many = leb-true (x .n) 32768 (first-true (leb (x .n) 32768) _ after-factor);
-        window-within = leb-true (natAbs (x .window)) (x .m * 2 ^ 42) (first-true window _ after-count);
+        stretch-within = leb-true (x .stretch) (x .n) (first-true (leb (x .stretch) (x .n)) terms all-counts);
+        k-within = leb-true (x .k) (x .n) (first-true (leb (x .k) (x .n)) _ both-terms);
+        c-within = leb-true (x .c) (x .n) (second-true (leb (x .k) (x .n)) _ both-terms);
+        window-within = leb-true (natAbs (x .window)) (x .m * 2 ^ 42) (first-true window _ after-counts);
         a-below = ltb-true (x .a .hi) (2 ^ 62) (first-true (ltb (x .a .hi) (2 ^ 62)) _ halves);
         b-below = ltb-true (x .b .hi) (2 ^ 62) (second-true (ltb (x .a .hi) (2 ^ 62)) _ halves);
       }
@@ -112,54 +142,55 @@ module _ (x : Meter) where
 pub slot-inside : (m k length : ℕ) → 1 ≤ m → 3 * m ≤ length → k % (3 * m) < length
 slot-inside m k length least long = omega (arith, mod-lt k {m = 3 * m} (omega arith))
 
--- samples n-m, n-2m and n-3m
+-- samples s-m, s-2m and s-3m of the stretch
 abbrev pub oneBack : Meter → List ℤ → ℤ
-oneBack x ring = slot x ring (x .n - x .m)
+oneBack x ring = slot x ring (x .stretch - x .m)
 
 abbrev pub twoBack : Meter → List ℤ → ℤ
-twoBack x ring = slot x ring (x .n - 2 * x .m)
+twoBack x ring = slot x ring (x .stretch - 2 * x .m)
 
 abbrev pub threeBack : Meter → List ℤ → ℤ
-threeBack x ring = slot x ring (x .n - 3 * x .m)
+threeBack x ring = slot x ring (x .stretch - 3 * x .m)
 
 module _ (x : Meter) (ring : List ℤ) where
   -- what is asked where a slot is read
-  pub slots-lie : holdsTogether x ≡ true → 3 * x .m ≤ length ring → (1 ≤ x .m) × (x .m ≤ 10922) × (3 * x .m ≤ length ring)
-  slots-lie e long = (holds-together x e .factor-least, holds-together x e .factor-most, long)
+  pub slots-lie : holdsTogether x ≡ true → 3 * x .m ≤ length ring → {back : ℕ} → back ≤ 3 * x .m → back ≤ x .stretch →
+      (1 ≤ x .m) × (x .m ≤ 10922) × (3 * x .m ≤ length ring) × (back ≤ 3 * x .m) × (back ≤ x .stretch)
+  slots-lie e long near old = (holds-together x e .factor-least, holds-together x e .factor-most, long, near, old)
 
   pub short-ring-fails : length ring < 3 * x .m → ringHolds x ring ≡ false
   unfolding ringHolds
   short-ring-fails h = simp (lt-leb (3 * x .m) (length ring) h)
 
   module _ (long : 3 * x .m ≤ length ring) where
-    pub no-slot-is-read : x .n < 2 * x .m → ringHolds x ring ≡ true
+    pub no-slot-is-read : x .stretch < 2 * x .m → ringHolds x ring ≡ true
     unfolding ringHolds
-    no-slot-is-read h = simp (le-leb (3 * x .m) (length ring) long, lt-leb (2 * x .m) (x .n) h, lt-leb (3 * x .m) (x .n) (omega arith))
+    no-slot-is-read h = simp (le-leb (3 * x .m) (length ring) long, lt-leb (2 * x .m) (x .stretch) h, lt-leb (3 * x .m) (x .stretch) (omega arith))
 
-    module _ (due : 2 * x .m ≤ x .n) where
+    module _ (due : 2 * x .m ≤ x .stretch) where
       pub first-slot-fails : inRange (oneBack x ring) ≡ false → ringHolds x ring ≡ false
       unfolding ringHolds
-      first-slot-fails e = simp (le-leb (3 * x .m) (length ring) long, le-leb (2 * x .m) (x .n) due, e)
+      first-slot-fails e = simp (le-leb (3 * x .m) (length ring) long, le-leb (2 * x .m) (x .stretch) due, e)
 
       module _ (first : inRange (oneBack x ring) ≡ true) where
         pub second-slot-fails : inRange (twoBack x ring) ≡ false → ringHolds x ring ≡ false
         unfolding ringHolds
-        second-slot-fails e = simp (le-leb (3 * x .m) (length ring) long, le-leb (2 * x .m) (x .n) due, first, e)
+        second-slot-fails e = simp (le-leb (3 * x .m) (length ring) long, le-leb (2 * x .m) (x .stretch) due, first, e)
 
         module _ (second : inRange (twoBack x ring) ≡ true) where
-          pub two-slots-hold : x .n < 3 * x .m → ringHolds x ring ≡ true
+          pub two-slots-hold : x .stretch < 3 * x .m → ringHolds x ring ≡ true
           unfolding ringHolds
-          two-slots-hold h = simp (le-leb (3 * x .m) (length ring) long, le-leb (2 * x .m) (x .n) due, lt-leb (3 * x .m) (x .n) h, first, second)
+          two-slots-hold h = simp (le-leb (3 * x .m) (length ring) long, le-leb (2 * x .m) (x .stretch) due, lt-leb (3 * x .m) (x .stretch) h, first, second)
 
-          pub third-slot-decides : 3 * x .m ≤ x .n → ringHolds x ring ≡ inRange (threeBack x ring)
+          pub third-slot-decides : 3 * x .m ≤ x .stretch → ringHolds x ring ≡ inRange (threeBack x ring)
           unfolding ringHolds
-          third-slot-decides h = simp (le-leb (3 * x .m) (length ring) long, le-leb (2 * x .m) (x .n) due, le-leb (3 * x .m) (x .n) h, first, second)
+          third-slot-decides h = simp (le-leb (3 * x .m) (length ring) long, le-leb (2 * x .m) (x .stretch) due, le-leb (3 * x .m) (x .stretch) h, first, second)
 
 -- what is known of a ring that holds
 pub record Slots (x : Meter) (ring : List ℤ) : Type 0 where
   pub long : 3 * x .m ≤ length ring
-  pub latest : 2 * x .m ≤ x .n → (natAbs (oneBack x ring) ≤ 2 ^ 40) × (natAbs (twoBack x ring) ≤ 2 ^ 40)
-  pub oldest : 3 * x .m ≤ x .n → natAbs (threeBack x ring) ≤ 2 ^ 40
+  pub latest : 2 * x .m ≤ x .stretch → (natAbs (oneBack x ring) ≤ 2 ^ 40) × (natAbs (twoBack x ring) ≤ 2 ^ 40)
+  pub oldest : 3 * x .m ≤ x .stretch → natAbs (threeBack x ring) ≤ 2 ^ 40
 
 pub ring-holds : (x : Meter) (ring : List ℤ) → ringHolds x ring ≡ true → Slots x ring
 unfolding ringHolds
@@ -167,10 +198,10 @@ ring-holds x ring e =
     let first = inRange (oneBack x ring) in
     let second = inRange (twoBack x ring) in
     let third = inRange (threeBack x ring) in
-    let two = cond (leb (2 * x .m) (x .n)) (first && second) true in
+    let two = cond (leb (2 * x .m) (x .stretch)) (first && second) true in
     let all = second-true (leb (3 * x .m) (length ring)) _ e in
-    let both : 2 * x .m ≤ x .n → (first && second) ≡ true = λ due. sym (choice-true _ _ (le-leb (2 * x .m) (x .n) due)) ∙ first-true two _ all in
-    let last : 3 * x .m ≤ x .n → third ≡ true = λ full. sym (choice-true _ _ (le-leb (3 * x .m) (x .n) full)) ∙ second-true two _ all in record {
+    let both : 2 * x .m ≤ x .stretch → (first && second) ≡ true = λ due. sym (choice-true _ _ (le-leb (2 * x .m) (x .stretch) due)) ∙ first-true two _ all in
+    let last : 3 * x .m ≤ x .stretch → third ≡ true = λ full. sym (choice-true _ _ (le-leb (3 * x .m) (x .stretch) full)) ∙ second-true two _ all in record {
       long = leb-true (3 * x .m) (length ring) (first-true (leb (3 * x .m) (length ring)) _ e);
       latest = λ due. (sample-bounded _ (first-true first second (both due)), sample-bounded _ (second-true first second (both due)));
       oldest = λ full. sample-bounded _ (last full);
@@ -229,7 +260,8 @@ let-in-by-number x ring v unrefused =
 pub let-in : (x : Meter) (ring : List ℤ) (v : ℤ) → sampleRefusal x ring v ≡ none → LetIn x ring v
 let-in x ring v nothing = let-in-by-number x ring v (ap (λ (r : Refusal). r .number) nothing)
 
-pub slots-lie-where-let-in : (x : Meter) (ring : List ℤ) (v : ℤ) → sampleRefusal x ring v ≡ none → (1 ≤ x .m) × (x .m ≤ 10922) × (3 * x .m ≤ length ring)
-slots-lie-where-let-in x ring v unrefused =
+pub slots-lie-where-let-in : (x : Meter) (ring : List ℤ) (v : ℤ) → sampleRefusal x ring v ≡ none → {back : ℕ} → back ≤ 3 * x .m → back ≤ x .stretch →
+    (1 ≤ x .m) × (x .m ≤ 10922) × (3 * x .m ≤ length ring) × (back ≤ 3 * x .m) × (back ≤ x .stretch)
+slots-lie-where-let-in x ring v unrefused near old =
     let known = let-in x ring v unrefused in
-    slots-lie x ring (known .meter-holds) (ring-holds x ring (known .ring-holds) .long)
+    slots-lie x ring (known .meter-holds) (ring-holds x ring (known .ring-holds) .long) near old

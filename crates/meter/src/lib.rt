@@ -1,24 +1,26 @@
-// The running meter: the Allan and modified sums of a stream, sample by sample, at the same cost whatever the factor. The ring that holds the
-// latest samples is lent. Fractions, deviations and whole records are left to others.
+// The running meter: the Allan and modified sums of a stream with its gaps, sample by sample, at the same cost whatever the factor. The ring that holds
+// the latest samples is lent. Fractions, deviations and whole records are left to others.
 mod arithmetic;
 mod tests;
 
 use sums::Part;
 use wide::Wide;
 ghost use mathlib.Core.Path.{_≡_};
-ghost use mathlib.Core.Bool.{true};
-ghost use Prim.Native.Nat.{_+_, _-_, _*_};
 ghost use lib.Dec.{leb};
-ghost use Rattle.wide.specs.Wide.{value, halves};
-ghost use Rattle.meter.specs.Meter.{holdsTogether, started};
+ghost use Rattle.wide.specs.Wide.{value};
+ghost use Rattle.meter.specs.Meter.{started};
 ghost use Rattle.sums.specs.Answers.{partOf};
-ghost use Rattle.meter.specs.Answers.{startAnswer, sampleAnswer, ringLeft, reportAnswer};
+ghost use Rattle.meter.specs.Answers.{startAnswer, sampleAnswer, ringLeft, gapAnswer, reportAnswer};
 
-// The factor m, the accepted count n, the sums A and B, and the sum of the latest second differences, all of them up to m.
+// The factor m, the accepted count n, how many of these are in the present stretch, the term counts K and C, the sums A and B, and the sum of the latest
+// second differences of the stretch, all of them up to m.
 #[repr(C)]
 pub struct Meter {
     pub m: u64,
     pub n: u64,
+    pub stretch: u64,
+    pub k: u64,
+    pub c: u64,
     pub a: Wide,
     pub b: Wide,
     pub window: i64,
@@ -32,7 +34,7 @@ pub struct MeterAnswer {
     pub meter: Meter,
 }
 
-// The two sums of a stream.
+// The two sums of a stream, each the total over its stretches.
 #[repr(C)]
 pub struct Report {
     pub number: u64,
@@ -75,7 +77,7 @@ impl Meter {
         if number != 0 {
             return refused(number, self);
         }
-        let own = (self.n % (3 * self.m)) as usize;
+        let own = (self.stretch % (3 * self.m)) as usize;
         let next = arithmetic::with_sample(self, ring, x);
         ring[own] = x;
         MeterAnswer {
@@ -85,16 +87,32 @@ impl Meter {
         }
     }
 
-    // A with n - 2m and B with n - 3m + 1, each apart, or 1 for the one that is not yet due. Refuses 7.
+    // The meter with a new stretch begun: no second difference and no window spans the gap. Refuses 7.
+    pub fn gap(self) -> MeterAnswer
+        ensures { λ r. ⌜ r ≡ gapAnswer self ⌝ }
+    {
+        if tests::holds_together(self) {
+            return MeterAnswer {
+                number: 0,
+                place: 0,
+                meter: arithmetic::with_gap(self),
+            };
+        }
+        refused(record::BAD_METER, self)
+    }
+
+    // A with K and B with C, each apart, or 1 for the one whose term count is 0. Refuses 7.
     pub fn report(self) -> Report
         ensures { λ r. ⌜ r ≡ reportAnswer self ⌝ }
     {
+        let a = self.a;
+        let b = self.b;
         if tests::holds_together(self) {
             return Report {
                 number: 0,
                 place: 0,
-                allan: allan_part(self),
-                modified: modified_part(self),
+                allan: part(a, self.k),
+                modified: part(b, self.c),
             };
         }
         Report {
@@ -124,56 +142,29 @@ fn fresh(m: u64) -> Meter
     Meter {
         m,
         n: 0,
+        stretch: 0,
+        k: 0,
+        c: 0,
         a: Wide { hi: 0, lo: 0 },
         b: Wide { hi: 0, lo: 0 },
         window: 0,
     }
 }
 
-// A with n - 2m, or 1.
-fn allan_part(meter: Meter) -> Part
-    requires { ⌜ holdsTogether meter ≡ true ⌝ }
-    ensures { λ r. ⌜ r ≡ partOf (leb (2 * meter .m + 1) (meter .n)) (value (meter .a)) (meter .n - 2 * meter .m) ⌝ }
+// A sum with its count, or 1 where it has no term.
+fn part(sum: Wide, count: u64) -> Part
+    ensures { λ r. ⌜ r ≡ partOf (leb 1 count) (value sum) count ⌝ }
 {
-    let n = meter.n;
-    let before = 2 * meter.m;
-    if before < n {
-        return due_part(meter.a, n - before);
+    if count < 1 {
+        return Part {
+            number: record::TOO_FEW,
+            sum: Wide { hi: 0, lo: 0 },
+            count: 0,
+        };
     }
-    part_not_due()
-}
-
-// B with n - 3m + 1, or 1.
-fn modified_part(meter: Meter) -> Part
-    requires { ⌜ holdsTogether meter ≡ true ⌝ }
-    ensures { λ r. ⌜ r ≡ partOf (leb (3 * meter .m) (meter .n)) (value (meter .b)) (meter .n + 1 - 3 * meter .m) ⌝ }
-{
-    let n = meter.n;
-    let before = 3 * meter.m;
-    if before <= n {
-        return due_part(meter.b, n + 1 - before);
-    }
-    part_not_due()
-}
-
-// A sum with its count.
-fn due_part(sum: Wide, count: u64) -> Part
-    ensures { λ r. ⌜ r ≡ record { number = 0; sum = sum; count = count } ⌝ }
-{
     Part {
         number: 0,
         sum,
         count,
-    }
-}
-
-// A part that is not yet due.
-fn part_not_due() -> Part
-    ensures { λ r. ⌜ r ≡ record { number = 1; sum = halves 0; count = 0 } ⌝ }
-{
-    Part {
-        number: record::TOO_FEW,
-        sum: Wide { hi: 0, lo: 0 },
-        count: 0,
     }
 }

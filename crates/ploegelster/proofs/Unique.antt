@@ -41,6 +41,8 @@ use Rattle.ploegelster.proofs.meters.plg_meter_start.Reads as plg-meter
 use Rattle.ploegelster.proofs.meters.plg_meter_start.Kinds as plg-meter-start-kinds
 use Rattle.ploegelster.proofs.meters.plg_meter_sample.Reads as plg-meter-sample
 use Rattle.ploegelster.proofs.meters.plg_meter_sample.Kinds as plg-meter-sample-kinds
+use Rattle.ploegelster.proofs.meters.plg_meter_gap.Reads as plg-meter-gap
+use Rattle.ploegelster.proofs.meters.plg_meter_gap.Kinds as plg-meter-gap-kinds
 use Rattle.ploegelster.proofs.meters.plg_meter_report.Reads as plg-meter-report
 use Rattle.ploegelster.proofs.meters.plg_meter_report.Kinds as plg-meter-report-kinds
 use Rattle.ploegelster.proofs.files.plg_read_file.Reads as plg-read-file
@@ -127,6 +129,9 @@ plg-meter-start-single κs args z z′ w w′ first second = (first ∙ sym seco
 
 pub plg-meter-sample-single : Single 1 plg-meter-sample-kinds.ps plg-meter-sample-kinds.r plg-meter-sample.Post
 plg-meter-sample-single κs args z z′ w w′ first second = (first .0 ∙ sym (second .0), λ i. (tt, ((first .1 ∙ sym (second .1)) i, (tt, tt))))
+
+pub plg-meter-gap-single : Single 0 plg-meter-gap-kinds.ps plg-meter-gap-kinds.r plg-meter-gap.Post
+plg-meter-gap-single κs args z z′ w w′ first second = (first ∙ sym second, refl)
 
 pub plg-meter-report-single : Single 0 plg-meter-report-kinds.ps plg-meter-report-kinds.r plg-meter-report.Post
 plg-meter-report-single κs args z z′ w w′ first second = (first ∙ sym second, refl)

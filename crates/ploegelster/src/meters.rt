@@ -3,7 +3,7 @@ use meter::Meter;
 use meter::MeterAnswer;
 use meter::Report;
 ghost use mathlib.Core.Path.{_≡_};
-ghost use Rattle.meter.specs.Answers.{startAnswer, sampleAnswer, ringLeft, reportAnswer};
+ghost use Rattle.meter.specs.Answers.{startAnswer, sampleAnswer, ringLeft, gapAnswer, reportAnswer};
 
 // A fresh meter at factor m in place of an old one.
 #[no_mangle]
@@ -21,7 +21,15 @@ pub extern "C" fn plg_meter_sample(meter: Meter, ring: &mut [i64], x: i64) -> Me
     meter.sample(ring, x)
 }
 
-// Both sums of the samples since the start.
+// The meter after a gap in the stream.
+#[no_mangle]
+pub extern "C" fn plg_meter_gap(meter: Meter) -> MeterAnswer
+    ensures { λ r. ⌜ r ≡ gapAnswer meter ⌝ }
+{
+    meter.gap()
+}
+
+// Both sums of the samples since the start, each the total over its stretches.
 #[no_mangle]
 pub extern "C" fn plg_meter_report(meter: Meter) -> Report
     ensures { λ r. ⌜ r ≡ reportAnswer meter ⌝ }

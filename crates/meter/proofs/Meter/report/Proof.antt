@@ -9,16 +9,16 @@ use Rattle.meter.proofs.Meter.report.Tie as tie
 holds-together-requires : tie.Need-holds-together-requires
 holds-together-requires c κs = search needs
 
-allan-part-requires : tie.Need-allan-part-requires
-allan-part-requires c κs = sym (c .before .holds-together .ensures) ∙ c .if1 .taken
+part-requires : tie.Need-part-requires
+part-requires c κs = search needs
 
-modified-part-requires : tie.Need-modified-part-requires
-modified-part-requires c κs = sym (c .before .before .holds-together .ensures) ∙ c .before .if1 .taken
+part-requires-2 : tie.Need-part-requires-2
+part-requires-2 c κs = search needs
 
 returns : tie.Need-returns
 returns c =
     let h = c .before .before in
-    report-given _ (sym (h .before .holds-together .ensures) ∙ h .if1 .taken) (c .before .allan-part .ensures) (c .modified-part .ensures)
+    report-given _ (sym (h .before .holds-together .ensures) ∙ h .if1 .taken) (c .before .part .ensures) (c .part2 .ensures)
 
 returns-2 : tie.Need-returns-2
 unfolding noPart
@@ -29,7 +29,7 @@ report-spec =
     tie.close
     (tie.spec
     holds-together-requires
-    allan-part-requires
-    modified-part-requires
+    part-requires
+    part-requires-2
     returns
     returns-2)

@@ -1,6 +1,7 @@
 -- `meter::arithmetic::new_difference` meets its contract: samples in range keep each step within a word.
 use borrow.Author.Needs.{needs}
 use mathlib.Core.Path.{refl}
+use native.Mathlib.Omega.{arith}
 use mir.Syntax.{w64}
 use Rattle.laws.proofs.Machine.{operation-fits, left-of, right-of}
 use Rattle.meter.proofs.TestLaws.{twoBack, slots-lie-where-let-in}
@@ -8,11 +9,8 @@ use Rattle.meter.proofs.ArithmeticLaws.{newOf, new-difference-fits, new
 use Rattle.meter.proofs.arithmetic.new_difference.Statement.{statement}
 use Rattle.meter.proofs.arithmetic.new_difference.Tie as tie
 
-sub-slot : tie.Need-sub-slot
-sub-slot c = search needs
-
 slot-requires : tie.Need-slot-requires
-slot-requires c κs = slots-lie-where-let-in (c .args .meter) (c .args .ring .now) (c .args .x) (c .pre .0)
+slot-requires c κs = slots-lie-where-let-in (c .args .meter) (c .args .ring .now) (c .args .x) (c .pre .0) (omega arith) (omega arith)
 
 mul-result : tie.Need-mul-result
 mul-result c =
@@ -29,11 +27,8 @@ sub-result c =
 mul-slot : tie.Need-mul-slot
 mul-slot c = search needs
 
-sub-slot-2 : tie.Need-sub-slot-2
-sub-slot-2 c = search needs
-
 slot-requires-2 : tie.Need-slot-requires-2
-slot-requires-2 c κs = let s = c .before in slots-lie-where-let-in (s .args .meter) (s .args .ring .now) (s .args .x) (s .pre .0)
+slot-requires-2 c κs = let s = c .before in slots-lie-where-let-in (s .args .meter) (s .args .ring .now) (s .args .x) (s .pre .0) (omega arith) (omega arith)
 
 add-result : tie.Need-add-result
 add-result c =
@@ -50,12 +45,10 @@ pub new-difference-spec : {M : Type 1} → statement M
 new-difference-spec =
     tie.close
     (tie.spec
-    sub-slot
     slot-requires
     mul-result
     sub-result
     mul-slot
-    sub-slot-2
     slot-requires-2
     add-result
     returns)

@@ -1,6 +1,7 @@
 -- `meter::arithmetic::old_difference` meets its contract: samples in range keep each step within a word.
 use borrow.Author.Needs.{needs}
 use mathlib.Core.Path.{refl}
+use native.Mathlib.Omega.{arith}
 use mir.Syntax.{w64}
 use Rattle.laws.proofs.Machine.{operation-fits, left-of, right-of}
 use Rattle.meter.proofs.TestLaws.{threeBack, slots-lie, ring-holds}
@@ -8,20 +9,14 @@ use Rattle.meter.proofs.ArithmeticLaws.{oldOf, old-difference-fits, old
 use Rattle.meter.proofs.arithmetic.old_difference.Statement.{statement}
 use Rattle.meter.proofs.arithmetic.old_difference.Tie as tie
 
-sub-slot : tie.Need-sub-slot
-sub-slot c = search needs
-
 slot-requires : tie.Need-slot-requires
-slot-requires c κs = slots-lie _ (c .args .ring .now) (c .pre .0) (ring-holds _ _ (c .pre .1) .long)
+slot-requires c κs = slots-lie _ (c .args .ring .now) (c .pre .0) (ring-holds _ _ (c .pre .1) .long) (omega arith) (omega arith)
 
 mul-slot : tie.Need-mul-slot
 mul-slot c = search needs
 
-sub-slot-2 : tie.Need-sub-slot-2
-sub-slot-2 c = search needs
-
 slot-requires-2 : tie.Need-slot-requires-2
-slot-requires-2 c κs = let s = c .before in slots-lie _ (s .args .ring .now) (s .pre .0) (ring-holds _ _ (s .pre .1) .long)
+slot-requires-2 c κs = let s = c .before in slots-lie _ (s .args .ring .now) (s .pre .0) (ring-holds _ _ (s .pre .1) .long) (omega arith) (omega arith)
 
 mul-result : tie.Need-mul-result
 mul-result c =
@@ -38,11 +33,8 @@ sub-result c =
 mul-slot-2 : tie.Need-mul-slot-2
 mul-slot-2 c = search needs
 
-sub-slot-3 : tie.Need-sub-slot-3
-sub-slot-3 c = search needs
-
 slot-requires-3 : tie.Need-slot-requires-3
-slot-requires-3 c κs = let s = c .before .before in slots-lie _ (s .args .ring .now) (s .pre .0) (ring-holds _ _ (s .pre .1) .long)
+slot-requires-3 c κs = let s = c .before .before in slots-lie _ (s .args .ring .now) (s .pre .0) (ring-holds _ _ (s .pre .1) .long) (omega arith) (omega arith)
 
 add-result : tie.Need-add-result
 add-result c =
@@ -61,15 +53,12 @@ pub old-difference-spec : {M : Type 1} → statement M
 old-difference-spec =
     tie.close
     (tie.spec
-    sub-slot
     slot-requires
     mul-slot
-    sub-slot-2
     slot-requires-2
     mul-result
     sub-result
     mul-slot-2
-    sub-slot-3
     slot-requires-3
     add-result
     returns)

@@ -18,20 +18,14 @@ mul-if2 c = search needs
 returns-2 : tie.Need-returns-2
 returns-2 c = sym (no-slot-is-read _ _ (omega arith) (omega arith))
 
-sub-slot-in-range : tie.Need-sub-slot-in-range
-sub-slot-in-range c = search needs
-
 slot-in-range-requires : tie.Need-slot-in-range-requires
-slot-in-range-requires c κs = let s = c .before .before in slots-lie (s .args .meter) (s .args .ring .now) (s .pre) (omega arith)
+slot-in-range-requires c κs = let s = c .before .before in slots-lie (s .args .meter) (s .args .ring .now) (s .pre) (omega arith) (omega arith) (omega arith)
 
 mul-slot-in-range : tie.Need-mul-slot-in-range
 mul-slot-in-range c = search needs
 
-sub-slot-in-range-2 : tie.Need-sub-slot-in-range-2
-sub-slot-in-range-2 c = search needs
-
 slot-in-range-requires-2 : tie.Need-slot-in-range-requires-2
-slot-in-range-requires-2 c κs = let s = c .before .before .before .before in slots-lie (s .args .meter) (s .args .ring .now) (s .pre) (omega arith)
+slot-in-range-requires-2 c κs = let s = c .before .before .before .before in slots-lie (s .args .meter) (s .args .ring .now) (s .pre) (omega arith) (omega arith) (omega arith)
 
 mul-if5 : tie.Need-mul-if5
 mul-if5 c = search needs
@@ -45,11 +39,8 @@ returns-3 c =
 mul-slot-in-range-2 : tie.Need-mul-slot-in-range-2
 mul-slot-in-range-2 c = search needs
 
-sub-slot-in-range-3 : tie.Need-sub-slot-in-range-3
-sub-slot-in-range-3 c = search needs
-
 slot-in-range-requires-3 : tie.Need-slot-in-range-requires-3
-slot-in-range-requires-3 c κs = let s = c .before .before .before .before .before .before .before in slots-lie (s .args .meter) (s .args .ring .now) (s .pre) (omega arith)
+slot-in-range-requires-3 c κs = let s = c .before .before .before .before .before .before .before in slots-lie (s .args .meter) (s .args .ring .now) (s .pre) (omega arith) (omega arith) (omega arith)
 
 returns-4 : tie.Need-returns-4
 returns-4 c =
@@ -74,15 +65,12 @@ ring-holds-spec =
     returns
     mul-if2
     returns-2
-    sub-slot-in-range
     slot-in-range-requires
     mul-slot-in-range
-    sub-slot-in-range-2
     slot-in-range-requires-2
     mul-if5
     returns-3
     mul-slot-in-range-2
-    sub-slot-in-range-3
     slot-in-range-requires-3
     returns-4
     returns-5

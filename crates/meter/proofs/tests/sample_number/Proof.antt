@@ -14,7 +14,7 @@ ring-holds-requires c κs = sym (c .before .holds-together .ensures) ∙ c .if1 
 
 returns : tie.Need-returns
 returns c =
-    let ring = c .before in
+    let ring = c .before .before in
     let meter = ring .before .before in
     sym (count-refused _ _ _ (sym (meter .before .holds-together .ensures) ∙ meter .if1 .taken) (sym (ring .before .ring-holds .ensures) ∙ ring .if2 .taken) (c .if3 .taken))
 
@@ -24,7 +24,7 @@ in-range-requires c κs = search needs
 returns-2 : tie.Need-returns-2
 returns-2 c =
     let count = c .before .before in
-    let ring = count .before in
+    let ring = count .before .before in
     let meter = ring .before .before in
     let s = meter .before .before in
     sym (sample-let-in _ _ _ (sym (meter .before .holds-together .ensures) ∙ meter .if1 .taken) (sym (ring .before .ring-holds .ensures) ∙ ring .if2 .taken) (count .if3 .left)
@@ -33,7 +33,7 @@ returns-2 c =
 returns-3 : tie.Need-returns-3
 returns-3 c =
     let count = c .before .before in
-    let ring = count .before in
+    let ring = count .before .before in
     let meter = ring .before .before in
     let s = meter .before .before in
     sym (sample-refused _ _ _ (sym (meter .before .holds-together .ensures) ∙ meter .if1 .taken) (sym (ring .before .ring-holds .ensures) ∙ ring .if2 .taken) (count .if3 .left)
