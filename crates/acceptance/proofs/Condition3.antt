@@ -24,7 +24,7 @@ use Rattle.sums.specs.Published.{difference, allanCount, allanSum, modifiedCoun
 use Rattle.sums.proofs.PublishedLaws.{allan-sum-is, modified-sum-is}
 use Rattle.sums.proofs.Shifted.{Shifted, shifted-allan-sum, shifted-modified-sum}
 use Rattle.sums.specs.Answers.{partOf}
-use Rattle.meter.specs.Meter.{holdsTogether, slot, newDifference, oldDifference, newWindow, withSample, withGap, started}
+use Rattle.meter.specs.Meter.{holdsTogether, slot, newDifference, oldDifference, windowWith, withTerms, withSample, withGap, started}
 use Rattle.meter.specs.Answers.{reportAnswer}
 use Rattle.meter.specs.declared.Meter.{Meter}
 use Rattle.meter.specs.declared.MeterAnswer.{MeterAnswer}
@@ -96,7 +96,7 @@ pub sample-works-on : {x : Meter} {ring left : List ℤ} {v : ℤ} {z : MeterAns
     × (3 * x .m ≤ s → y .window ≡ x .window +ℤ d -ℤ e)
     × (s + 1 < 3 * x .m → (y .b ≡ x .b) × (y .c ≡ x .c))
     × (3 * x .m ≤ s + 1 → (value (y .b) ≡ value (x .b) + square (y .window)) × (y .c ≡ x .c + 1))
-unfolding withSample newWindow newDifference oldDifference slot
+unfolding withSample withTerms windowWith newDifference oldDifference slot
 sample-works-on {x} call accepted =
     let s : ℕ = x .stretch in
     rw (accepted-worked call accepted) (

@@ -18,7 +18,7 @@ use Rattle.laws.proofs.Tests.{choices-agree}
 use Rattle.wide.specs.Wide.{value, halves}
 use Rattle.record.specs.Refusals.{inRange}
 use Rattle.record.specs.declared.Refusal.{Refusal}
-use Rattle.meter.specs.Meter.{holdsTogether, slot, ringHolds, newDifference, oldDifference, newWindow, withSample, ringWith, withGap}
+use Rattle.meter.specs.Meter.{holdsTogether, slot, ringHolds, newDifference, oldDifference, windowWith, withTerms, withSample, ringWith, withGap}
 use Rattle.meter.specs.Answers.{meterAnswer, sampleRefusal, sampleAnswer, ringLeft, gapAnswer}
 use Rattle.meter.specs.declared.Meter.{Meter}
 use Rattle.meter.specs.declared.MeterAnswer.{MeterAnswer}
@@ -58,14 +58,14 @@ module _ {x : Meter} {ring ring′ : List ℤ} (same : SameRead x ring ring′) 
     unfolding oldDifference
     same-old-difference many = rw (same .once (omega arith), same .twice (omega arith), same .thrice many)
 
-    same-window : newWindow x ring v ≡ newWindow x ring′ v
-    unfolding newWindow
+    same-window : windowWith x (newDifference x ring v) (oldDifference x ring) ≡ windowWith x (newDifference x ring′ v) (oldDifference x ring′)
+    unfolding windowWith
     same-window =
         choices-agree (3 * x .m) (x .stretch) (λ many. ap₂ (λ (d e : ℤ). x .window +ℤ d -ℤ e) (same-new-difference (omega arith)) (same-old-difference many))
         (λ few. choices-agree (2 * x .m) (x .stretch) (λ many. ap (λ (d : ℤ). x .window +ℤ d) (same-new-difference many)) (λ none. refl))
 
     same-meter : withSample x ring v ≡ withSample x ring′ v
-    unfolding withSample
+    unfolding withSample withTerms
     same-meter =
         let new-a = choices-agree (2 * x .m) (x .stretch) (λ many. ap (λ (d : ℤ). halves (value (x .a) + square d)) (same-new-difference many)) (λ few. refl) in
         λ i. record {
@@ -105,7 +105,7 @@ module _ {x : Meter} {ring ring′ : List ℤ} (same : SameLatest x ring ring′
 
   module _ (v : ℤ) where
     accepted-same-latest : SameLatest (withSample x ring v) (ringWith x ring v) (ringWith x ring′ v)
-    unfolding withSample ringWith slot
+    unfolding withSample withTerms ringWith slot
     accepted-same-latest =
         let own : ℕ = x .stretch % (3 * x .m) in
         let some : 0 < 3 * x .m = omega (arith, same .factor-least) in record {

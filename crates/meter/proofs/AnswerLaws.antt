@@ -1,31 +1,32 @@
 -- The cases of the meter's answers.
-use mathlib.Core.Path.{_≡_, sym, ap, _∙_}
-use mathlib.Core.Bool.{true, false}
+use mathlib.Core.Path.{_≡_, refl, sym, ap, _∙_}
+use mathlib.Core.Bool.{true, false, _&&_}
 use mathlib.Core.List.{List}
 use Prim.Native.Nat.{ℕ, _+_, _-_, _*_, _%_, _^_, _≤_, _<_}
 use native.Mathlib.Omega.{arith}
 use borrow.Author.Tests.{lt-ltb, le-ltb, le-leb, lt-leb, ne-eqb}
-use lib.Dec.{leb}
-use lib.IntN.{ℤ}
+use lib.Dec.{leb, eqb}
+use lib.IntN.{ℤ, pos, natAbs, _+ℤ_, _-ℤ_, _*ℤ_}
 use lib.ListN.{length, set}
 use mir.Syntax.{w64}
 use mir.Val.{SFits}
-use Rattle.laws.proofs.Expressions.{$_}
-use Rattle.laws.proofs.Machine.{machine-is}
-use Rattle.laws.proofs.Tests.{choice-true, choice-false}
+use Rattle.laws.proofs.Machine.{read-back}
+use Rattle.laws.proofs.Tests.{choice-true, choice-false, first-true, second-true}
 use Rattle.wide.specs.Wide.{value, halves}
 use Rattle.wide.specs.declared.Wide.{Wide}
 use Rattle.wide.proofs.WideLaws.{halves-of-value}
-use Rattle.record.specs.Refusals.{none, refused}
+use Rattle.record.specs.Refusals.{none, refused, inRange}
+use Rattle.record.proofs.RangeLaws.{sample-bounded}
 use Rattle.sums.proofs.TotalLaws.{read}
-use Rattle.meter.specs.Meter.{factorFits, holdsTogether, started, withSample, ringWith, withGap}
+use Rattle.meter.specs.Meter.{factorFits, holdsTogether, started, windowWith, withTerms, withSample, ringWith, withGap}
 use Rattle.sums.specs.Answers.{partOf, noPart}
 use Rattle.meter.specs.Answers.{meterAnswer, startRefusal, startAnswer, sampleRefusal, sampleAnswer, ringLeft, gapAnswer, reportAnswer}
 use Rattle.meter.specs.declared.Meter.{Meter}
 use Rattle.meter.specs.declared.MeterAnswer.{MeterAnswer}
 use Rattle.sums.specs.declared.Part.{Part}
 use Rattle.meter.specs.declared.Report.{Report}
-use Rattle.meter.proofs.TestLaws.{slot-inside, slots-lie-where-let-in}
+use Rattle.meter.proofs.TestLaws.{let-in, readOne, readTwo, readThree, slotsLie, slots-lie, readGood, ring-by-what-is-read, numberOf, no-slot-refused, slots-refusal-is}
+use Rattle.meter.proofs.ArithmeticLaws.{sample-by-what-was-read}
 
 -- ---- a part of a report
 
@@ -94,13 +95,36 @@ module _ (x : Meter) where
 
 -- ---- a sample call
 
--- number is what the tests gave
-module _ (x : Meter) (ring : List ℤ) (v : ℤ) (fits : SFits w64 v) {number : ℕ} (given : refused number 0 ≡ sampleRefusal x ring (read v)) where
+-- where no slot lies
+module _ (x : Meter) (ring : List ℤ) (v : ℤ) (none-lies : slotsLie x ring ≡ false) where
+  pub bad-meter-refused : refusedAnswer 7 x ≡ sampleAnswer x ring v
+  unfolding sampleAnswer meterAnswer
+  bad-meter-refused = sym (simp (no-slot-refused x ring v none-lies))
+
+  pub bad-meter-leaves-ring : ring ≡ ringLeft x ring v
+  unfolding ringLeft
+  bad-meter-leaves-ring = sym (simp (no-slot-refused x ring v none-lies))
+
+-- else: the old samples as they were read, and the number that the tests gave
+module _ (x : Meter) (ring : List ℤ) (v : ℤ) (fits : SFits w64 v) (lies : slotsLie x ring ≡ true) {one two three : ℤ}
+    (one-is : one ≡ readOne x ring) (two-is : two ≡ readTwo x ring) (three-is : three ≡ readThree x ring)
+    (one-fits : SFits w64 one) (two-fits : SFits w64 two) (three-fits : SFits w64 three) {number : ℕ}
+    (given : number ≡ numberOf (inRange (read one) && (inRange (read two) && inRange (read three))) (eqb (x .n) 32768) (inRange (read v))) where
   sample-read : read v ≡ v
-  sample-read = machine-is w64 ($ v) fits
+  sample-read = read-back refl fits
+
+  one-read : read one ≡ readOne x ring
+  one-read = read-back refl one-fits ∙ one-is
+
+  two-read : read two ≡ readTwo x ring
+  two-read = read-back refl two-fits ∙ two-is
+
+  three-read : read three ≡ readThree x ring
+  three-read = read-back refl three-fits ∙ three-is
 
   refusal-is : sampleRefusal x ring v ≡ refused number 0
-  refusal-is = sym (given ∙ ap (sampleRefusal x ring) sample-read)
+  refusal-is =
+      slots-refusal-is x ring v lies ∙ ap (λ (k : ℕ). refused k 0) (sym (given ∙ rw (one-read, two-read, three-read, sample-read)))
 
   -- a refusal leaves the meter and the ring as they came
   module _ (refuses : number ≡ 0 → ⊥) where
@@ -117,17 +141,29 @@ module _ (x : Meter) (ring : List ℤ) (v : ℤ) (fits : SFits w64 v) {number : 
     sample-unrefused : sampleRefusal x ring v ≡ none
     sample-unrefused = refusal-is ∙ ap (λ (t : ℕ). refused t 0) refuses-nothing
 
-    pub own-slot-inside : (1 ≤ x .m) × (x .m ≤ 10922) × (x .stretch % (3 * x .m) < length ring)
-    own-slot-inside =
-        let lies = slots-lie-where-let-in x ring v sample-unrefused {back = 0} (omega arith) (omega arith) in
-        (lies .0, lies .1, slot-inside (x .m) (x .stretch) (length ring) (lies .0) (lies .2))
+    pub sample-lets-in : (holdsTogether x ≡ true) × (x .n < 32768)
+        × (natAbs (read one) ≤ 2 ^ 40) × (natAbs (read two) ≤ 2 ^ 40) × (natAbs (read three) ≤ 2 ^ 40) × (natAbs (read v) ≤ 2 ^ 40)
+    sample-lets-in =
+        let known = let-in x ring v sample-unrefused in
+        let good : readGood x ring ≡ true = sym (ring-by-what-is-read x ring (slots-lie x ring lies .1)) ∙ known .ring-holds in
+        let both = second-true (inRange (readOne x ring)) _ good in
+        rw (one-read, two-read, three-read, sample-read) (
+          known .meter-holds,
+          known .room,
+          sample-bounded _ (first-true (inRange (readOne x ring)) _ good),
+          sample-bounded _ (first-true (inRange (readTwo x ring)) _ both),
+          sample-bounded _ (second-true (inRange (readTwo x ring)) _ both),
+          known .sample-within,
+        )
 
-    pub read-sample-unrefused : sampleRefusal x ring (read v) ≡ none
-    read-sample-unrefused = ap (sampleRefusal x ring) sample-read ∙ sample-unrefused
-
-    pub sample-call-given : {new : Meter} → new ≡ withSample x ring (read v) → givenAnswer new ≡ sampleAnswer x ring v
+    pub sample-call-given : {new : Meter} →
+        new ≡ withTerms x (read v -ℤ pos 2 *ℤ read one +ℤ read two)
+        (windowWith x (read v -ℤ pos 2 *ℤ read one +ℤ read two) (read one -ℤ pos 2 *ℤ read two +ℤ read three)) →
+        givenAnswer new ≡ sampleAnswer x ring v
     unfolding sampleAnswer meterAnswer
-    sample-call-given new-is = ap givenAnswer (new-is ∙ ap (withSample x ring) sample-read) ∙ sym (simp sample-unrefused)
+    sample-call-given {new} new-is =
+        let taken : new ≡ withSample x ring v = new-is ∙ rw (one-read, two-read, three-read, sample-read) (sample-by-what-was-read x ring v) in
+        ap givenAnswer taken ∙ sym (simp sample-unrefused)
 
     pub ring-written : set ring (x .stretch % (3 * x .m)) (read v) ≡ ringLeft x ring v
     unfolding ringLeft ringWith

@@ -23,7 +23,7 @@ use Rattle.record.proofs.RefusalLaws.{in-range-bounded, first-refuses-nothing, 
 use Rattle.sums.specs.Published.{difference, allanSum, allanCount, modifiedSum, modifiedCount}
 use Rattle.sums.specs.Answers.{partOf}
 use Rattle.sums.proofs.PublishedLaws.{allan-within, modified-within, allan-sum-is, modified-sum-is}
-use Rattle.meter.specs.Meter.{factorFits, countsFit, holdsTogether, slot, ringHolds, newDifference, oldDifference, newWindow, withSample, ringWith, withGap, started}
+use Rattle.meter.specs.Meter.{factorFits, countsFit, holdsTogether, slot, ringHolds, newDifference, oldDifference, windowWith, withTerms, withSample, ringWith, withGap, started}
 use Rattle.meter.specs.Answers.{startRefusal, sampleRefusal, reportAnswer}
 use Rattle.meter.specs.declared.Meter.{Meter}
 use Rattle.meter.specs.declared.Report.{Report}
@@ -290,8 +290,8 @@ module _ {m : ℕ} {ring h : List ℤ} {past : List (List ℤ)} (run : Running m
           old-slot (length h - 3 * m) i (omega arith) (omega arith) (omega arith),
         )
 
-    new-window-is : newWindow (meterAfter m h past) ring v ≡ latest m longer
-    unfolding newWindow
+    new-window-is : windowWith (meterAfter m h past) (newDifference (meterAfter m h past) ring v) (oldDifference (meterAfter m h past) ring) ≡ latest m longer
+    unfolding windowWith
     new-window-is =
         choice-by-order (3 * m) (length h)
         (λ many. ap₂ (λ (d e : ℤ). latest m h +ℤ d -ℤ e) (new-difference-is (omega arith)) (old-difference-is many) ∙ sym (latest-slides h v m many))
@@ -305,15 +305,15 @@ module _ {m : ℕ} {ring h : List ℤ} {past : List (List ℤ)} (run : Running m
     new-n-is = omega (arith, one-longer h v)
 
     new-k-is : withSample (meterAfter m h past) ring v .k ≡ totalOver (allanCount m) (longer ∷ past)
-    unfolding withSample totalOver allanCount
+    unfolding withSample withTerms totalOver allanCount
     new-k-is = choice-by-order (2 * m) (length h) (λ many. omega (arith, one-longer h v)) (λ few. omega (arith, one-longer h v))
 
     new-c-is : withSample (meterAfter m h past) ring v .c ≡ totalOver (modifiedCount m) (longer ∷ past)
-    unfolding withSample totalOver modifiedCount
+    unfolding withSample withTerms totalOver modifiedCount
     new-c-is = choice-by-order (3 * m) (length h + 1) (λ many. omega (arith, one-longer h v)) (λ few. omega (arith, one-longer h v))
 
     new-allan-is : withSample (meterAfter m h past) ring v .a ≡ halves (totalOver (allanSum m) (longer ∷ past))
-    unfolding withSample totalOver
+    unfolding withSample withTerms totalOver
     new-allan-is =
         choice-by-order (2 * m) (length h)
         (λ many.
@@ -321,14 +321,14 @@ module _ {m : ℕ} {ring h : List ℤ} {past : List (List ℤ)} (run : Running m
         (λ few. ap halves (omega (arith, allan-waits h v m few)))
 
     new-modified-is : withSample (meterAfter m h past) ring v .b ≡ halves (totalOver (modifiedSum m) (longer ∷ past))
-    unfolding withSample totalOver
+    unfolding withSample withTerms totalOver
     new-modified-is =
         choice-by-order (3 * m) (length h + 1)
         (λ many. ap halves (ap₂ (λ (s : ℕ) (w : ℤ). s + square w) (value-of-halves _) new-window-is ∙ omega (arith, modified-grows h v m many)))
         (λ few. ap halves (omega (arith, modified-waits h v m few)))
 
     pub with-sample-is : withSample (meterAfter m h past) ring v ≡ meterAfter m longer past
-    unfolding withSample
+    unfolding withSample withTerms
     with-sample-is = λ i. record {
       m = m;
       n = new-n-is i;

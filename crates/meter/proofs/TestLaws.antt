@@ -1,6 +1,6 @@
 -- What the tests of a meter and of its ring tell, taken in the order in which the code makes them.
-use mathlib.Core.Path.{_≡_, sym, ap, _∙_}
-use mathlib.Core.Bool.{Bool, true, false, cond, not, _&&_}
+use mathlib.Core.Path.{_≡_, refl, sym, ap, _∙_}
+use mathlib.Core.Bool.{Bool, true, false, cond, not, _&&_, true≢false}
 use mathlib.Core.List.{List}
 use Prim.Native.Nat.{ℕ, _-_, _*_, _%_, _^_, _≤_, _<_}
 use native.Mathlib.Nat.{mod-lt}
@@ -14,7 +14,7 @@ use mir.Syntax.{w64}
 use mir.Val.{SFits, ofZ, toZ}
 use Rattle.laws.proofs.Expressions.{Expression, $_, #_, _⊗_, ⊝_}
 use Rattle.laws.proofs.Machine.{Fit, machine, machine-is, test-is}
-use Rattle.laws.proofs.Tests.{choice-true, first-true, second-true}
+use Rattle.laws.proofs.Tests.{choice-true, both-true, first-true, second-true}
 use Rattle.record.specs.Refusals.{none, refused, refusedIf, _then_, inRange}
 use Rattle.record.specs.declared.Refusal.{Refusal}
 use Rattle.record.proofs.RangeLaws.{below-low-end, above-low-end, sample-bounded}
@@ -152,39 +152,66 @@ twoBack x ring = slot x ring (x .stretch - 2 * x .m)
 abbrev pub threeBack : Meter → List ℤ → ℤ
 threeBack x ring = slot x ring (x .stretch - 3 * x .m)
 
+-- the same as they are read: 0 for one that is not due
+abbrev pub readOne : Meter → List ℤ → ℤ
+readOne x ring = cond (leb (2 * x .m) (x .stretch)) (oneBack x ring) (pos 0)
+
+abbrev pub readTwo : Meter → List ℤ → ℤ
+readTwo x ring = cond (leb (2 * x .m) (x .stretch)) (twoBack x ring) (pos 0)
+
+abbrev pub readThree : Meter → List ℤ → ℤ
+readThree x ring = cond (leb (3 * x .m) (x .stretch)) (threeBack x ring) (pos 0)
+
 module _ (x : Meter) (ring : List ℤ) where
-  -- what is asked where a slot is read
-  pub slots-lie : holdsTogether x ≡ true → 3 * x .m ≤ length ring → {back : ℕ} → back ≤ 3 * x .m → back ≤ x .stretch →
-      (1 ≤ x .m) × (x .m ≤ 10922) × (3 * x .m ≤ length ring) × (back ≤ 3 * x .m) × (back ≤ x .stretch)
-  slots-lie e long near old = (holds-together x e .factor-least, holds-together x e .factor-most, long, near, old)
+  -- what is tested before a slot is read
+  abbrev pub slotsLie : Bool
+  slotsLie = holdsTogether x && leb (3 * x .m) (length ring)
 
-  pub short-ring-fails : length ring < 3 * x .m → ringHolds x ring ≡ false
-  unfolding ringHolds
-  short-ring-fails h = simp (lt-leb (3 * x .m) (length ring) h)
+  pub length-decides : holdsTogether x ≡ true → slotsLie ≡ leb (3 * x .m) (length ring)
+  length-decides e = simp e
 
-  module _ (long : 3 * x .m ≤ length ring) where
-    pub no-slot-is-read : x .stretch < 2 * x .m → ringHolds x ring ≡ true
-    unfolding ringHolds
-    no-slot-is-read h = simp (le-leb (3 * x .m) (length ring) long, lt-leb (2 * x .m) (x .stretch) h, lt-leb (3 * x .m) (x .stretch) (omega arith))
+  pub meter-decides : holdsTogether x ≡ false → slotsLie ≡ false
+  meter-decides e = simp e
 
-    module _ (due : 2 * x .m ≤ x .stretch) where
-      pub first-slot-fails : inRange (oneBack x ring) ≡ false → ringHolds x ring ≡ false
-      unfolding ringHolds
-      first-slot-fails e = simp (le-leb (3 * x .m) (length ring) long, le-leb (2 * x .m) (x .stretch) due, e)
+  pub slots-lie : slotsLie ≡ true → (holdsTogether x ≡ true) × (3 * x .m ≤ length ring)
+  slots-lie e =
+      let long = leb (3 * x .m) (length ring) in
+      (first-true (holdsTogether x) long e, leb-true (3 * x .m) (length ring) (second-true (holdsTogether x) long e))
 
-      module _ (first : inRange (oneBack x ring) ≡ true) where
-        pub second-slot-fails : inRange (twoBack x ring) ≡ false → ringHolds x ring ≡ false
-        unfolding ringHolds
-        second-slot-fails e = simp (le-leb (3 * x .m) (length ring) long, le-leb (2 * x .m) (x .stretch) due, first, e)
+  -- the ring holds where the samples that are read are in range
+  abbrev pub readGood : Bool
+  readGood = inRange (readOne x ring) && (inRange (readTwo x ring) && inRange (readThree x ring))
 
-        module _ (second : inRange (twoBack x ring) ≡ true) where
-          pub two-slots-hold : x .stretch < 3 * x .m → ringHolds x ring ≡ true
-          unfolding ringHolds
-          two-slots-hold h = simp (le-leb (3 * x .m) (length ring) long, le-leb (2 * x .m) (x .stretch) due, lt-leb (3 * x .m) (x .stretch) h, first, second)
+  pub ring-by-what-is-read : 3 * x .m ≤ length ring → ringHolds x ring ≡ readGood
+  unfolding ringHolds inRange
+  ring-by-what-is-read long =
+      ap (λ (t : Bool). t && (cond due (p && q) true && cond full r true)) (le-leb (3 * x .m) (length ring) long) ∙ by-test due full
+    where
+      due : Bool
+      due = leb (2 * x .m) (x .stretch)
 
-          pub third-slot-decides : 3 * x .m ≤ x .stretch → ringHolds x ring ≡ inRange (threeBack x ring)
-          unfolding ringHolds
-          third-slot-decides h = simp (le-leb (3 * x .m) (length ring) long, le-leb (2 * x .m) (x .stretch) due, le-leb (3 * x .m) (x .stretch) h, first, second)
+      full : Bool
+      full = leb (3 * x .m) (x .stretch)
+
+      p : Bool
+      p = inRange (oneBack x ring)
+
+      q : Bool
+      q = inRange (twoBack x ring)
+
+      r : Bool
+      r = inRange (threeBack x ring)
+
+      three-tests : (s t u : Bool) → ((s && t) && u) ≡ (s && (t && u))
+      three-tests true t u = refl
+      three-tests false t u = refl
+
+      by-test : (s t : Bool) → (cond s (p && q) true && cond t r true) ≡
+          (inRange (cond s (oneBack x ring) (pos 0)) && (inRange (cond s (twoBack x ring) (pos 0)) && inRange (cond t (threeBack x ring) (pos 0))))
+      by-test true true = three-tests p q r
+      by-test true false = three-tests p q true
+      by-test false true = refl
+      by-test false false = refl
 
 -- what is known of a ring that holds
 pub record Slots (x : Meter) (ring : List ℤ) : Type 0 where
@@ -209,29 +236,43 @@ ring-holds x ring e =
 
 -- ---- a sample call: 7, 2, 3
 
+-- its number, by the tests in their order
+abbrev pub numberOf : Bool → Bool → Bool → ℕ
+numberOf good full inside = cond good (cond full 2 (cond inside 0 3)) 7
+
 module _ (x : Meter) (ring : List ℤ) (v : ℤ) where
-  pub meter-refused : holdsTogether x ≡ false → sampleRefusal x ring v ≡ refused 7 0
+  pub sample-refusal-is : {good : Bool} → (holdsTogether x && ringHolds x ring) ≡ good →
+      sampleRefusal x ring v ≡ refused (numberOf good (eqb (x .n) 32768) (inRange v)) 0
   unfolding sampleRefusal
-  meter-refused e = simp e
+  sample-refusal-is {good} e = rw e (by-test good (eqb (x .n) 32768) (inRange v))
+    where
+      by-test : (g u w : Bool) → (refusedIf (not g) 7 0 then refusedIf u 2 0 then refusedIf (not w) 3 0) ≡ refused (numberOf g u w) 0
+      by-test true true w = refl
+      by-test true false true = refl
+      by-test true false false = refl
+      by-test false u w = refl
 
-  module _ (together : holdsTogether x ≡ true) where
-    pub ring-refused : ringHolds x ring ≡ false → sampleRefusal x ring v ≡ refused 7 0
-    unfolding sampleRefusal
-    ring-refused e = simp (together, e)
+  pub count-refused : holdsTogether x ≡ true → ringHolds x ring ≡ true → x .n ≡ 32768 → sampleRefusal x ring v ≡ refused 2 0
+  count-refused meter ring full = sample-refusal-is (both-true meter ring) ∙ simp (eq-eqb (x .n) 32768 full)
 
-    module _ (sound : ringHolds x ring ≡ true) where
-      pub count-refused : x .n ≡ 32768 → sampleRefusal x ring v ≡ refused 2 0
-      unfolding sampleRefusal
-      count-refused e = simp (together, sound, eq-eqb (x .n) 32768 e)
+  pub sample-refused : holdsTogether x ≡ true → ringHolds x ring ≡ true → (x .n ≡ 32768 → ⊥) → inRange v ≡ false → sampleRefusal x ring v ≡ refused 3 0
+  sample-refused meter ring room outside = sample-refusal-is (both-true meter ring) ∙ simp (ne-eqb (x .n) 32768 room, outside)
 
-      module _ (room : x .n ≡ 32768 → ⊥) where
-        pub sample-refused : inRange v ≡ false → sampleRefusal x ring v ≡ refused 3 0
-        unfolding sampleRefusal
-        sample-refused e = simp (together, sound, ne-eqb (x .n) 32768 room, e)
+  -- where a slot does not lie 7 is given; else the samples that are read decide
+  pub no-slot-refused : slotsLie x ring ≡ false → sampleRefusal x ring v ≡ refused 7 0
+  unfolding ringHolds
+  no-slot-refused e = sample-refusal-is (by-test (holdsTogether x) (leb (3 * x .m) (length ring)) refl refl e)
+    where
+      by-test : (s t : Bool) → holdsTogether x ≡ s → leb (3 * x .m) (length ring) ≡ t → (s && t) ≡ false → (s && ringHolds x ring) ≡ false
+      by-test true true meter long none = absurd (true≢false none)
+      by-test true false meter short none = simp short
+      by-test false t meter long none = refl
 
-        pub sample-let-in : inRange v ≡ true → sampleRefusal x ring v ≡ none
-        unfolding sampleRefusal
-        sample-let-in e = simp (together, sound, ne-eqb (x .n) 32768 room, e)
+  pub slots-refusal-is : slotsLie x ring ≡ true → sampleRefusal x ring v ≡ refused (numberOf (readGood x ring) (eqb (x .n) 32768) (inRange v)) 0
+  slots-refusal-is e =
+      let lies = slots-lie x ring e in
+      let good : (holdsTogether x && ringHolds x ring) ≡ readGood x ring = rw (lies .0) (ring-by-what-is-read x ring (lies .1)) in
+      sample-refusal-is good
 
 -- what is known where a sample is let in
 pub record LetIn (x : Meter) (ring : List ℤ) (v : ℤ) : Type 0 where
@@ -259,9 +300,3 @@ let-in-by-number x ring v unrefused =
 
 pub let-in : (x : Meter) (ring : List ℤ) (v : ℤ) → sampleRefusal x ring v ≡ none → LetIn x ring v
 let-in x ring v nothing = let-in-by-number x ring v (ap (λ (r : Refusal). r .number) nothing)
-
-pub slots-lie-where-let-in : (x : Meter) (ring : List ℤ) (v : ℤ) → sampleRefusal x ring v ≡ none → {back : ℕ} → back ≤ 3 * x .m → back ≤ x .stretch →
-    (1 ≤ x .m) × (x .m ≤ 10922) × (3 * x .m ≤ length ring) × (back ≤ 3 * x .m) × (back ≤ x .stretch)
-slots-lie-where-let-in x ring v unrefused near old =
-    let known = let-in x ring v unrefused in
-    slots-lie x ring (known .meter-holds) (ring-holds x ring (known .ring-holds) .long) near old

@@ -47,25 +47,31 @@ unfoldable pub oldDifference : Meter → List ℤ → ℤ
 oldDifference x ring =
     slot x ring (x .stretch - x .m) -ℤ pos 2 *ℤ slot x ring (x .stretch - 2 * x .m) +ℤ slot x ring (x .stretch - 3 * x .m)
 
--- the sum of the latest second differences of the stretch, all of them up to m
-unfoldable pub newWindow : Meter → List ℤ → ℤ → ℤ
-newWindow x ring v =
-    cond (leb (3 * x .m) (x .stretch)) (x .window +ℤ newDifference x ring v -ℤ oldDifference x ring)
-    (cond (leb (2 * x .m) (x .stretch)) (x .window +ℤ newDifference x ring v)
+-- the sum of the latest second differences of the stretch, all of them up to m: d joins it once there is one, e leaves it once it is full
+unfoldable pub windowWith : Meter → ℤ → ℤ → ℤ
+windowWith x d e =
+    cond (leb (3 * x .m) (x .stretch)) (x .window +ℤ d -ℤ e)
+    (cond (leb (2 * x .m) (x .stretch)) (x .window +ℤ d)
     (x .window))
 
--- the meter with sample v: A takes in the new difference once there is one, B the window once it is full, and K and C count them
-unfoldable pub withSample : Meter → List ℤ → ℤ → Meter
-withSample x ring v = record {
+-- the meter with one sample more: A takes in the new difference d once there is one, B the window w once it is full, and K and C count them
+unfoldable pub withTerms : Meter → ℤ → ℤ → Meter
+withTerms x d w = record {
   m = x .m;
   n = x .n + 1;
   stretch = x .stretch + 1;
   k = cond (leb (2 * x .m) (x .stretch)) (x .k + 1) (x .k);
   c = cond (leb (3 * x .m) (x .stretch + 1)) (x .c + 1) (x .c);
-  a = cond (leb (2 * x .m) (x .stretch)) (halves (value (x .a) + square (newDifference x ring v))) (x .a);
-  b = cond (leb (3 * x .m) (x .stretch + 1)) (halves (value (x .b) + square (newWindow x ring v))) (x .b);
-  window = newWindow x ring v;
+  a = cond (leb (2 * x .m) (x .stretch)) (halves (value (x .a) + square d)) (x .a);
+  b = cond (leb (3 * x .m) (x .stretch + 1)) (halves (value (x .b) + square w)) (x .b);
+  window = w;
 }
+
+-- the meter with sample v, by the old slots of its ring
+unfoldable pub withSample : Meter → List ℤ → ℤ → Meter
+withSample x ring v =
+    let d : ℤ = newDifference x ring v in
+    withTerms x d (windowWith x d (oldDifference x ring))
 
 -- the ring with sample v: its own slot alone is written
 unfoldable pub ringWith : Meter → List ℤ → ℤ → List ℤ

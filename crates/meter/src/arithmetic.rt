@@ -1,19 +1,48 @@
 // What a sample and a gap do to a meter that holds together, at the same cost whatever m, n and the stretch are.
 use crate::Meter;
-use crate::tests::slot;
 ghost use mathlib.Core.Path.{_≡_};
-ghost use mathlib.Core.Bool.{true, cond};
-ghost use Prim.Native.Nat.{_*_, _≤_, _^_};
-ghost use lib.Dec.{leb};
-ghost use lib.IntN.{natAbs, _+ℤ_, _-ℤ_};
-ghost use Rattle.record.specs.Refusals.{none};
-ghost use Rattle.meter.specs.Meter.{holdsTogether, ringHolds, newDifference, oldDifference, withSample, withGap};
-ghost use Rattle.meter.specs.Answers.{sampleRefusal};
+ghost use mathlib.Core.Bool.{true};
+ghost use Prim.Native.Nat.{_≤_, _<_, _^_};
+ghost use lib.IntN.{pos, natAbs, _+ℤ_, _-ℤ_, _*ℤ_};
+ghost use Rattle.meter.specs.Meter.{holdsTogether, windowWith, withTerms, withGap};
 
-// The meter with sample x, from the old slots of its ring.
-pub(crate) fn with_sample(meter: Meter, ring: &[i64], x: i64) -> Meter
-    requires { ⌜ sampleRefusal meter (now ring) x ≡ none ⌝ }
-    ensures { λ r. ⌜ r ≡ withSample meter (now (ring .entry)) x ⌝ }
+// The meter with sample x, by the samples m, 2m and 3m before it; one that is not due is 0.
+pub(crate) fn with_sample(meter: Meter, one: i64, two: i64, three: i64, x: i64) -> Meter
+    requires { ⌜ (holdsTogether meter ≡ true) × (meter .n < 32768) × (natAbs one ≤ 2 ^ 40) × (natAbs two ≤ 2 ^ 40) × (natAbs three ≤ 2 ^ 40) × (natAbs x ≤ 2 ^ 40) ⌝ }
+    ensures { λ r. ⌜ r ≡ withTerms meter (x -ℤ pos 2 *ℤ one +ℤ two) (windowWith meter (x -ℤ pos 2 *ℤ one +ℤ two) (one -ℤ pos 2 *ℤ two +ℤ three)) ⌝ }
+{
+    let d = difference(x, one, two);
+    let e = difference(one, two, three);
+    let window = new_window(meter, d, e);
+    with_terms(meter, d, window)
+}
+
+// The second difference of three samples, the latest first.
+fn difference(x: i64, y: i64, z: i64) -> i64
+    requires { ⌜ (natAbs x ≤ 2 ^ 40) × (natAbs y ≤ 2 ^ 40) × (natAbs z ≤ 2 ^ 40) ⌝ }
+    ensures { λ r. ⌜ r ≡ x -ℤ pos 2 *ℤ y +ℤ z ⌝ }
+{
+    x - 2 * y + z
+}
+
+// The window with the new difference d once there is one, and without e, which leaves it, once it is full.
+fn new_window(meter: Meter, d: i64, e: i64) -> i64
+    requires { ⌜ (holdsTogether meter ≡ true) × (natAbs d ≤ 2 ^ 42) × (natAbs e ≤ 2 ^ 42) ⌝ }
+    ensures { λ r. ⌜ r ≡ windowWith meter d e ⌝ }
+{
+    if meter.stretch < 2 * meter.m {
+        return meter.window;
+    }
+    if meter.stretch < 3 * meter.m {
+        return meter.window + d;
+    }
+    meter.window + d - e
+}
+
+// The meter with one sample more, the new difference d and the window.
+fn with_terms(meter: Meter, d: i64, window: i64) -> Meter
+    requires { ⌜ (holdsTogether meter ≡ true) × (meter .n < 32768) × (natAbs d ≤ 2 ^ 42) × (natAbs window ≤ 2 ^ 56) ⌝ }
+    ensures { λ r. ⌜ r ≡ withTerms meter d window ⌝ }
 {
     let m = meter.m;
     let n = meter.n + 1;
@@ -32,11 +61,9 @@ pub(crate) fn with_sample(meter: Meter, ring: &[i64], x: i64) -> Meter
             c,
             a,
             b,
-            window: meter.window,
+            window,
         };
     }
-    let d = new_difference(meter, ring, x);
-    let window = new_window(meter, ring, d);
     let more = wide::with_square(a, d);
     let terms = k + 1;
     if next < 3 * m {
@@ -62,35 +89,6 @@ pub(crate) fn with_sample(meter: Meter, ring: &[i64], x: i64) -> Meter
         b: wide::with_square(b, window),
         window,
     }
-}
-
-// The second difference that sample x completes.
-fn new_difference(meter: Meter, ring: &[i64], x: i64) -> i64
-    requires { ⌜ (sampleRefusal meter (now ring) x ≡ none) × (2 * meter .m ≤ meter .stretch) ⌝ }
-    ensures { λ r. ⌜ r ≡ newDifference meter (now (ring .entry)) x ⌝ }
-{
-    let m = meter.m;
-    x - 2 * slot(meter, ring, m) + slot(meter, ring, 2 * m)
-}
-
-// The window with the new difference d, and without the one that leaves it once it is full.
-fn new_window(meter: Meter, ring: &[i64], d: i64) -> i64
-    requires { ⌜ (holdsTogether meter ≡ true) × (ringHolds meter (now ring) ≡ true) × (natAbs d ≤ 2 ^ 42) ⌝ }
-    ensures { λ r. ⌜ r ≡ cond (leb (3 * meter .m) (meter .stretch)) (meter .window +ℤ d -ℤ oldDifference meter (now (ring .entry))) (meter .window +ℤ d) ⌝ }
-{
-    if meter.stretch < 3 * meter.m {
-        return meter.window + d;
-    }
-    meter.window + d - old_difference(meter, ring)
-}
-
-// The second difference that leaves the window.
-fn old_difference(meter: Meter, ring: &[i64]) -> i64
-    requires { ⌜ (holdsTogether meter ≡ true) × (ringHolds meter (now ring) ≡ true) × (3 * meter .m ≤ meter .stretch) ⌝ }
-    ensures { λ r. ⌜ r ≡ oldDifference meter (now (ring .entry)) ⌝ }
-{
-    let m = meter.m;
-    slot(meter, ring, m) - 2 * slot(meter, ring, 2 * m) + slot(meter, ring, 3 * m)
 }
 
 // The meter at the beginning of a stretch.

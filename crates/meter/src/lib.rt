@@ -1,6 +1,7 @@
 // The running meter: the Allan and modified sums of a stream with its gaps, sample by sample, at the same cost whatever the factor. The ring that holds
 // the latest samples is lent. Fractions, deviations and whole records are left to others.
 mod arithmetic;
+mod slots;
 mod tests;
 
 use sums::Part;
@@ -73,18 +74,25 @@ impl Meter {
     pub fn sample(self, ring: &mut [i64], x: i64) -> MeterAnswer
         ensures { λ r. ⌜ (r ≡ sampleAnswer self (now (ring .entry)) x) × (now (ring .exit) ≡ ringLeft self (now (ring .entry)) x) ⌝ }
     {
-        let number = tests::sample_number(self, ring, x);
-        if number != 0 {
-            return refused(number, self);
+        let m = self.m;
+        if tests::slots_lie(self, ring) {
+            let own = self.stretch % (3 * m);
+            let one = slots::old(self, ring, own, m, 2 * m);
+            let two = slots::old(self, ring, own, 2 * m, 2 * m);
+            let three = slots::old(self, ring, own, 3 * m, 3 * m);
+            let number = tests::sample_number(self.n, one, two, three, x);
+            if number != 0 {
+                return refused(number, self);
+            }
+            let next = arithmetic::with_sample(self, one, two, three, x);
+            ring[own as usize] = x;
+            return MeterAnswer {
+                number: 0,
+                place: 0,
+                meter: next,
+            };
         }
-        let own = (self.stretch % (3 * self.m)) as usize;
-        let next = arithmetic::with_sample(self, ring, x);
-        ring[own] = x;
-        MeterAnswer {
-            number: 0,
-            place: 0,
-            meter: next,
-        }
+        refused(record::BAD_METER, self)
     }
 
     // The meter with a new stretch begun: no second difference and no window spans the gap. Refuses 7.

@@ -1,29 +1,39 @@
 // Whether a meter and its ring hold together. Every field of a meter may have been made by hand.
 use crate::Meter;
 ghost use mathlib.Core.Path.{_≡_};
-ghost use mathlib.Core.Bool.{true, cond, _&&_};
-ghost use Prim.Native.Nat.{_+_, _-_, _*_, _≤_, _<_, _^_};
-ghost use lib.Dec.{leb, ltb};
+ghost use mathlib.Core.Bool.{cond, _&&_};
+ghost use Prim.Native.Nat.{_*_, _≤_, _^_};
+ghost use lib.Dec.{leb, ltb, eqb};
 ghost use lib.IntN.{natAbs};
 ghost use lib.ListN.{length};
 ghost use Rattle.record.specs.Refusals.{inRange};
-ghost use Rattle.meter.specs.Meter.{countsFit, holdsTogether, ringHolds};
-ghost use Rattle.meter.specs.Meter.{slot as slotOf};
-ghost use Rattle.meter.specs.Answers.{sampleRefusal};
+ghost use Rattle.meter.specs.Meter.{countsFit, holdsTogether};
 
-// 7, 2, 3, or 0.
-pub(crate) fn sample_number(meter: Meter, ring: &[i64], x: i64) -> u64
-    ensures { λ r. ⌜ record { number = r; place = 0 } ≡ sampleRefusal meter (now (ring .entry)) x ⌝ }
+// What is tested of a meter and of its ring's length, before a slot is read.
+pub(crate) fn slots_lie(meter: Meter, ring: &[i64]) -> bool
+    ensures { λ r. ⌜ r ≡ holdsTogether meter && leb (3 * meter .m) (length (now (ring .entry))) ⌝ }
 {
     if holds_together(meter) {
-        if ring_holds(meter, ring) {
-            if meter.n == Meter::MOST_SAMPLES {
-                return record::TOO_MANY;
+        return 3 * meter.m <= ring.len() as u64;
+    }
+    false
+}
+
+// 7 for an old sample, 2, 3 for the new one, or 0.
+pub(crate) fn sample_number(n: u64, one: i64, two: i64, three: i64, x: i64) -> u64
+    ensures { λ r. ⌜ r ≡ cond (inRange one && (inRange two && inRange three)) (cond (eqb n 32768) 2 (cond (inRange x) 0 3)) 7 ⌝ }
+{
+    if record::in_range(one) {
+        if record::in_range(two) {
+            if record::in_range(three) {
+                if n == Meter::MOST_SAMPLES {
+                    return record::TOO_MANY;
+                }
+                if record::in_range(x) {
+                    return 0;
+                }
+                return record::OUT_OF_RANGE;
             }
-            if record::in_range(x) {
-                return 0;
-            }
-            return record::OUT_OF_RANGE;
         }
     }
     record::BAD_METER
@@ -88,58 +98,4 @@ fn high_halves_hold(meter: Meter) -> bool
         return b.hi < 4611686018427387904;
     }
     false
-}
-
-// What is tested of the ring: its length, and the old slots that a sample reads.
-fn ring_holds(meter: Meter, ring: &[i64]) -> bool
-    requires { ⌜ holdsTogether meter ≡ true ⌝ }
-    ensures { λ r. ⌜ r ≡ ringHolds meter (now (ring .entry)) ⌝ }
-{
-    let m = meter.m;
-    let s = meter.stretch;
-    if (ring.len() as u64) < 3 * m {
-        return false;
-    }
-    if s < 2 * m {
-        return true;
-    }
-    if slot_in_range(meter, ring, m) {
-        if slot_in_range(meter, ring, 2 * m) {
-            if s < 3 * m {
-                return true;
-            }
-            return slot_in_range(meter, ring, 3 * m);
-        }
-    }
-    false
-}
-
-// Whether the sample that came so far back lies in its range, as the ring holds it.
-fn slot_in_range(meter: Meter, ring: &[i64], back: u64) -> bool
-    requires { ⌜ (1 ≤ meter .m) × (meter .m ≤ 10922) × (3 * meter .m ≤ length (now ring)) × (back ≤ 3 * meter .m) × (back ≤ meter .stretch) ⌝ }
-    ensures { λ r. ⌜ r ≡ inRange (slotOf meter (now (ring .entry)) (meter .stretch - back)) ⌝ }
-{
-    record::in_range(slot(meter, ring, back))
-}
-
-// The sample that came so far back from the next one of the stretch. The next one's slot takes a remainder, an earlier one's a comparison.
-pub(crate) fn slot(meter: Meter, ring: &[i64], back: u64) -> i64
-    requires { ⌜ (1 ≤ meter .m) × (meter .m ≤ 10922) × (3 * meter .m ≤ length (now ring)) × (back ≤ 3 * meter .m) × (back ≤ meter .stretch) ⌝ }
-    ensures { λ r. ⌜ r ≡ slotOf meter (now (ring .entry)) (meter .stretch - back) ⌝ }
-{
-    let slots = 3 * meter.m;
-    let own = meter.stretch % slots;
-    let at = earlier(own, slots, back) as usize;
-    ring[at]
-}
-
-// The slot so far back from another, once round where that is before the first.
-fn earlier(own: u64, slots: u64, back: u64) -> u64
-    requires { ⌜ (own < slots) × (slots ≤ 32766) × (back ≤ slots) ⌝ }
-    ensures { λ r. ⌜ r ≡ cond (leb back own) (own - back) (own + slots - back) ⌝ }
-{
-    if own < back {
-        return own + slots - back;
-    }
-    own - back
 }

@@ -1,78 +1,43 @@
 -- `meter::arithmetic::with_sample` meets its contract.
-use borrow.Author.Needs.{needs}
-use native.Mathlib.Omega.{arith}
-use Rattle.meter.proofs.TestLaws.{let-in}
-use Rattle.meter.proofs.ArithmeticLaws.{next-fits, sample-counted, read-difference-within, difference-taken-in, window-taken-in}
+use Rattle.meter.proofs.ArithmeticLaws.{samples-read, read-difference-within, read-window-within, terms-are}
 use Rattle.meter.proofs.arithmetic.with_sample.Statement.{statement}
 use Rattle.meter.proofs.arithmetic.with_sample.Tie as tie
 
-add-n : tie.Need-add-n
-add-n c = omega (arith, next-fits _ _ _ (c .before .pre))
+difference-requires : tie.Need-difference-requires
+difference-requires c κs = samples-read (c .args .x) (c .args .one) (c .args .two) (c .pre .5, c .pre .2, c .pre .3)
 
-add-next : tie.Need-add-next
-add-next c = omega (arith, next-fits _ _ _ (c .before .before .before .pre))
-
-mul-if1 : tie.Need-mul-if1
-mul-if1 c = omega (arith, next-fits _ _ _ (c .before .before .before .pre))
-
-returns : tie.Need-returns
-returns c = sample-counted _ _ _ (c .before .before .before .before .before .pre) (omega arith)
-
-new-difference-requires : tie.Need-new-difference-requires
-new-difference-requires c κs = search needs
+difference-requires-2 : tie.Need-difference-requires-2
+difference-requires-2 c κs = let s = c .before in samples-read (s .args .one) (s .args .two) (s .args .three) (s .pre .2, s .pre .3, s .pre .4)
 
 new-window-requires : tie.Need-new-window-requires
 new-window-requires c κs =
-    let s = c .before .before .before .before .before in
-    let known = let-in _ _ _ (s .pre) in
-    (known .meter-holds, known .ring-holds, read-difference-within _ _ _ (s .pre) (omega arith) (c .new-difference .ensures))
+    let s = c .before .before in (
+      s .pre .0,
+      read-difference-within (s .args .x) (s .args .one) (s .args .two) (s .pre .5, s .pre .2, s .pre .3) (c .before .difference .ensures),
+      read-difference-within (s .args .one) (s .args .two) (s .args .three) (s .pre .2, s .pre .3, s .pre .4) (c .difference2 .ensures),
+    )
 
-with-square-requires : tie.Need-with-square-requires
-with-square-requires c κs = search needs
+with-terms-requires : tie.Need-with-terms-requires
+with-terms-requires c κs =
+    let second = c .before in
+    let first = second .before in
+    let s = first .before in (
+      s .pre .0,
+      s .pre .1,
+      read-difference-within (s .args .x) (s .args .one) (s .args .two) (s .pre .5, s .pre .2, s .pre .3) (first .difference .ensures),
+      read-window-within (s .args .meter) (s .pre .0) (s .args .x) (s .args .one) (s .args .two) (s .args .three) (s .pre .5, s .pre .2, s .pre .3) (s .pre .2, s .pre .3, s .pre .4) (first .difference .ensures) (second .difference2 .ensures) (c .new-window .ensures),
+    )
 
-add-terms : tie.Need-add-terms
-add-terms c = omega (arith, next-fits _ _ _ (c .before .before .before .before .before .before .before .pre))
-
-mul-if2 : tie.Need-mul-if2
-mul-if2 c = omega (arith, next-fits _ _ _ (c .before .before .before .before .before .before .before .pre))
-
-returns-2 : tie.Need-returns-2
-returns-2 c =
-    let square = c .before in
-    let window = square .before in
-    let difference = window .before in
-    let s = difference .before .before .before .before .before in
-    difference-taken-in _ _ _ (s .pre) (omega arith) (difference .new-difference .ensures) (window .new-window .ensures) (omega (arith, s .good)) (square .with-square .ensures) (omega arith)
-
-add-windows : tie.Need-add-windows
-add-windows c = omega (arith, next-fits _ _ _ (c .before .before .before .before .before .before .before .before .pre))
-
-with-square-requires-2 : tie.Need-with-square-requires-2
-with-square-requires-2 c κs = search needs
-
-returns-3 : tie.Need-returns-3
-returns-3 c =
-    let square = c .before .before in
-    let window = square .before in
-    let difference = window .before in
-    let s = difference .before .before .before .before .before in
-    window-taken-in _ _ _ (s .pre) (omega arith) (difference .new-difference .ensures) (window .new-window .ensures) (omega (arith, s .good)) (square .with-square .ensures) (omega arith)
-    (omega (arith, s .good)) (c .with-square2 .ensures)
+returns : tie.Need-returns
+returns c =
+    let window = c .before in
+    let second = window .before in
+    let first = second .before in
+    let s = first .before in
+    terms-are (s .args .meter) (s .pre .0) (s .args .x) (s .args .one) (s .args .two) (s .args .three) (s .pre .5, s .pre .2, s .pre .3) (s .pre .2, s .pre .3, s .pre .4) (first .difference .ensures) (second .difference2 .ensures) (window .new-window .ensures)
+    (c .with-terms .ensures)
 
 pub with-sample-spec : {M : Type 1} → statement M
 with-sample-spec =
     tie.close
-    (tie.spec
-    add-n
-    add-next
-    mul-if1
-    returns
-    new-difference-requires
-    new-window-requires
-    with-square-requires
-    add-terms
-    mul-if2
-    returns-2
-    add-windows
-    with-square-requires-2
-    returns-3)
+    (tie.spec difference-requires difference-requires-2 new-window-requires with-terms-requires returns)

@@ -1,11 +1,11 @@
--- `meter::tests::earlier` meets its contract.
+-- `meter::slots::earlier` meets its contract.
 use borrow.Author.Needs.{needs}
 use borrow.Author.Tests.{le-leb, lt-leb}
 use mathlib.Core.Path.{sym}
 use native.Mathlib.Omega.{arith}
 use Rattle.laws.proofs.Tests.{choice-true, choice-false}
-use Rattle.meter.proofs.tests.earlier.Statement.{statement}
-use Rattle.meter.proofs.tests.earlier.Tie as tie
+use Rattle.meter.proofs.slots.earlier.Statement.{statement}
+use Rattle.meter.proofs.slots.earlier.Tie as tie
 
 add-result : tie.Need-add-result
 add-result c = search needs
