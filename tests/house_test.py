@@ -16,7 +16,7 @@ PUBLISHED, UNIQUE = "crates/ploegelster/src/published.rt", "crates/sums/proofs/U
 CONDITION1, CONDITION2 = house.CONDITION1, "crates/acceptance/proofs/Condition2.antt"
 GROUNDS = house.GROUNDS
 HEADER, RULES, STATEMENTS = house.HEADER, house.RULES, house.STATEMENTS
-EDIT = "crates/meter/must-fail/sums_left.edit"
+EDIT = "crates/meter/must-fail/gap_keeps_the_stretch.edit"
 RUST = next(path for path in house.House(ROOT, []).files("rust/**/boundary.rs"))
 CARGO = next(path for path in house.House(ROOT, []).files("rust/**/Cargo.toml") if '\nversion = "' in (ROOT / path).read_text())
 
@@ -108,13 +108,13 @@ CASES = [
      "`spare-law` has no place, here or elsewhere in the document"),
     (STATEMENTS, "| `root` |", "| `roots` |", "`roots` is no public function of wide"),
     (STATEMENTS, "| `root` |", "| the root |", "pub fn root of crates/wide/src/lib.rt stands in no table of functions of docs/STATEMENTS.md"),
-    (STATEMENTS, "`samples_ignored` (meter)", "`samples_ignored` (sums)", "`samples_ignored` does not stand in crates/sums/must-fail/"),
+    (STATEMENTS, "`gap_keeps_the_window` (meter)", "`gap_keeps_the_window` (sums)", "`gap_keeps_the_window` does not stand in crates/sums/must-fail/"),
     (STATEMENTS, "| `root` |", "| `root` | |", "the row has 5 cells, and its table has 4 columns"),
-    (STATEMENTS, "`samples_ignored` (meter)", "`samples_ignored`", "`samples_ignored` has no crate beside it"),
+    (STATEMENTS, "`gap_keeps_the_window` (meter)", "`gap_keeps_the_window`", "`gap_keeps_the_window` has no crate beside it"),
     # must-fail edits
-    (EDIT, "", None, "`sums_left` does not stand in crates/meter/must-fail/"),
-    (EDIT.replace("sums_left", "spare"), None, "", "crates/meter/must-fail/spare.edit is not named in docs/STATEMENTS.md"),
-    (EDIT.replace("sums_left", "spare"), None, "", "crates/meter has 9 must-fail edits, and 8 are the most"),
+    (EDIT, "", None, "`gap_keeps_the_stretch` does not stand in crates/meter/must-fail/"),
+    (EDIT.replace("gap_keeps_the_stretch", "spare"), None, "", "crates/meter/must-fail/spare.edit is not named in docs/STATEMENTS.md"),
+    (EDIT.replace("gap_keeps_the_stretch", "spare"), None, "", "crates/meter has 9 must-fail edits, and 8 are the most"),
     # versions and documents
     (CARGO, '\nversion = "', '\nversion = "9', f"{CARGO} has version 9"),
     (HEADER, "#define PLG_VERSION_MINOR", "#define PLG_MINOR", "include/ploegelster.h does not define PLG_VERSION_MAJOR"),
