@@ -212,13 +212,19 @@ pub struct BarsAnswer {
 pub struct Meter {
     /// The factor.
     pub m: u64,
-    /// How many samples were accepted.
+    /// How many samples were accepted since the start, in all.
     pub n: u64,
+    /// How many of these were accepted since the latest gap.
+    pub stretch: u64,
+    /// How many squares there are in A.
+    pub k: u64,
+    /// How many squares there are in B.
+    pub c: u64,
     /// The Allan sum A.
     pub a: Wide,
     /// The modified sum B.
     pub b: Wide,
-    /// The sum of the latest second differences, m of them or, at first, all.
+    /// The sum of the latest second differences since the gap, all of them up to m.
     pub window: i64,
 }
 
@@ -357,9 +363,11 @@ extern "C" {
 
     /// A fresh meter at factor m in place of an old one.
     pub fn plg_meter_start(old: Meter, m: u64, ring: *const i64, ring_length: usize) -> MeterAnswer;
-    /// The meter with one more sample, which is written to its slot of the ring.
+    /// The meter with one more sample of the present stretch, which is written to its slot of the ring.
     pub fn plg_meter_sample(meter: Meter, ring: *mut i64, ring_length: usize, x: i64) -> MeterAnswer;
-    /// Both sums of the samples accepted since the start.
+    /// The meter after a gap in the stream.
+    pub fn plg_meter_gap(meter: Meter) -> MeterAnswer;
+    /// Both sums of the samples accepted since the start, each the total over the stretches.
     pub fn plg_meter_report(meter: Meter) -> SumsAnswer;
 
     /// The values of a file of version 1, written to the buffer.

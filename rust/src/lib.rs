@@ -44,7 +44,7 @@ mod sums;
 
 pub use boundary::{Meter, Totals, Wide};
 pub use file::{file_length, read_file, read_record, record_length, salvage, write_file, write_record, Contents, Kind, Record, Salvage};
-pub use meter::{meter_report, meter_sample, meter_start};
+pub use meter::{meter_gap, meter_report, meter_sample, meter_start};
 pub use plot::{allan_dot, bars, drawn_number, noise_of_record, noise_type, time_dot, Bars, Dot, Noise};
 pub use records::{drift_figure, float_sums, frequency_from_phase, phase_from_frequency, phase_from_start, remove_drift, Drift, FloatSums};
 pub use refusals::{refusal_text, Ground, Refusal};

@@ -17,9 +17,9 @@ pub struct Sum {
 #[must_use]
 #[derive(Clone, Copy, Debug, PartialEq, Eq)]
 pub struct Sums {
-    /// The Allan sum A with its count K; none below 2m+1 samples.
+    /// The Allan sum A with its count K; none where that is 0, while no stretch has 2m+1 samples.
     pub allan: Option<Sum>,
-    /// The modified sum B with its count C; none below 3m samples.
+    /// The modified sum B with its count C; none where that is 0, while no stretch has 3m samples.
     pub modified: Option<Sum>,
 }
 

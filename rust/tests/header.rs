@@ -255,6 +255,36 @@ fn a_sheet_has_its_length_and_its_totals() {
     assert_eq!([std::mem::offset_of!(boundary::Totals, k), std::mem::offset_of!(boundary::Totals, c)], [0, 8]);
 }
 
+/// A meter is ten words: the factor, four counts, both sums and the window. A gap is told to the meter alone, with no ring.
+#[test]
+fn a_meter_has_its_stretch_and_its_term_counts() {
+    let declared = of_header();
+    for line in [
+        "struct Meter { m: u64, n: u64, stretch: u64, k: u64, c: u64, a: Wide, b: Wide, window: i64 }",
+        "struct MeterAnswer { number: u64, place: u64, meter: Meter }",
+        "fn plg_meter_start(old: Meter, m: u64, ring: *const i64, ring_length: usize) -> MeterAnswer",
+        "fn plg_meter_sample(meter: Meter, ring: *mut i64, ring_length: usize, x: i64) -> MeterAnswer",
+        "fn plg_meter_gap(meter: Meter) -> MeterAnswer",
+    ] {
+        assert!(declared.contains(line), "{line}");
+    }
+    assert_eq!(std::mem::size_of::<boundary::Meter>(), 10 * 8);
+    assert_eq!(std::mem::size_of::<boundary::MeterAnswer>(), 12 * 8);
+    assert_eq!(std::mem::align_of::<boundary::MeterAnswer>(), 8);
+    let offsets = [
+        std::mem::offset_of!(boundary::Meter, m),
+        std::mem::offset_of!(boundary::Meter, n),
+        std::mem::offset_of!(boundary::Meter, stretch),
+        std::mem::offset_of!(boundary::Meter, k),
+        std::mem::offset_of!(boundary::Meter, c),
+        std::mem::offset_of!(boundary::Meter, a),
+        std::mem::offset_of!(boundary::Meter, b),
+        std::mem::offset_of!(boundary::Meter, window),
+    ];
+    assert_eq!(offsets, [0, 8, 16, 24, 32, 40, 56, 72]);
+    assert_eq!(std::mem::offset_of!(boundary::MeterAnswer, meter), 16);
+}
+
 #[test]
 fn a_safe_function_for_each_entry() {
     let sources = [

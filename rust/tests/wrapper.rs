@@ -147,3 +147,32 @@ fn a_meter_outlives_a_refusal() -> Result<(), Refusal> {
     assert_eq!(sum, ploegelster::allan_sum(&[0, 1, 4, 9], 1)?);
     Ok(())
 }
+
+#[test]
+fn a_meter_goes_on_after_a_gap() -> Result<(), Refusal> {
+    let mut ring = [0; 3];
+    let mut meter = ploegelster::meter_start(Meter::NOUGHTS, 1, &ring)?;
+    // A gap before the first sample changes nothing.
+    assert_eq!(ploegelster::meter_gap(meter)?, meter);
+    for x in [0, 1, 4, 9] {
+        meter = ploegelster::meter_sample(meter, &mut ring, x)?;
+    }
+    meter = ploegelster::meter_gap(meter)?;
+    assert_eq!((meter.m, meter.n, meter.stretch, meter.k, meter.c, meter.window, ring), (1, 4, 0, 2, 2, 0, [9, 1, 4]));
+    assert_eq!(ploegelster::meter_gap(meter)?, meter);
+    for x in [7, 0, 3] {
+        meter = ploegelster::meter_sample(meter, &mut ring, x)?;
+    }
+    assert_eq!((meter.m, meter.n, meter.stretch, meter.k, meter.c, meter.window, ring), (1, 7, 3, 3, 3, 10, [7, 0, 3]));
+    let (first, second) = (ploegelster::allan_sum(&[0, 1, 4, 9], 1)?, ploegelster::allan_sum(&[7, 0, 3], 1)?);
+    let sum = ploegelster::meter_report(meter)?.allan.expect("two stretches at factor 1");
+    assert_eq!((sum.total, sum.count), (first.total + second.total, first.count + second.count));
+    Ok(())
+}
+
+#[test]
+fn a_gap_before_any_start_in_words() {
+    let refusal = ploegelster::meter_gap(Meter::NOUGHTS).unwrap_err();
+    assert_eq!(refusal, Refusal { ground: Ground::BadMeter, place: 0 });
+    assert_eq!(refusal.to_string(), "refused 7, a meter that does not hold together, at 0");
+}

@@ -83,6 +83,7 @@ fn float_sums(readings: &[f64], m: u64) {
 fn meter(samples: &[i64], m: u64, work: &str, stream: fn(&[i64], u64, &mut [i64]) -> Meter) {
     let (mut ring, mut plain_ring) = (vec![0; 3 * m as usize], vec![0; 3 * m as usize]);
     let (ours, theirs) = (stream(samples, m, &mut ring), plain_stream(samples, m, &mut plain_ring));
+    assert_eq!((ours.m, ours.n, ours.stretch, ours.k, ours.c), (theirs.m, theirs.n, theirs.stretch, theirs.k, theirs.c));
     assert_eq!((u128::from(ours.a), u128::from(ours.b), ours.window), (theirs.a, theirs.b, theirs.window));
     assert_eq!(ring, plain_ring);
     let library = || stream(black_box(samples), m, &mut ring);

@@ -96,26 +96,32 @@ pub fn float_sums(readings: &[f64], m: u64, buffer: &mut [i64]) -> Outcome<Float
 pub struct Meter {
     pub m: u64,
     pub n: u64,
+    pub stretch: u64,
+    pub k: u64,
+    pub c: u64,
     pub a: u128,
     pub b: u128,
     pub window: i64,
 }
 
-/// The meter with one more sample; the ring is lent.
+/// The meter with one more sample of the present stretch; the ring is lent.
 #[inline(never)]
 pub fn sample(meter: Meter, ring: &mut [i64], x: i64) -> Outcome<Meter> {
-    let Meter { m, n, mut a, mut b, mut window } = meter;
-    if m < 1 || m > 10_922 || n > 32_768 || window.unsigned_abs() > m << 42 || a >> 126 != 0 || b >> 126 != 0 || (ring.len() as u64) < 3 * m {
+    let Meter { m, n, stretch: s, mut k, mut c, mut a, mut b, mut window } = meter;
+    if m < 1 || m > 10_922 || n > 32_768 || s > n || k > n || c > n {
+        return Err((7, 0));
+    }
+    if window.unsigned_abs() > m << 42 || a >> 126 != 0 || b >> 126 != 0 || (ring.len() as u64) < 3 * m {
         return Err((7, 0));
     }
     let inside = |x: i64| x >= -END && x <= END;
-    let slot = |k: u64| (k % (3 * m)) as usize;
+    let slot = |i: u64| (i % (3 * m)) as usize;
     let (mut one, mut two, mut three) = (0, 0, 0);
-    if n >= 2 * m {
-        (one, two) = (ring[slot(n - m)], ring[slot(n - 2 * m)]);
+    if s >= 2 * m {
+        (one, two) = (ring[slot(s - m)], ring[slot(s - 2 * m)]);
     }
-    if n >= 3 * m {
-        three = ring[slot(n)];
+    if s >= 3 * m {
+        three = ring[slot(s)];
     }
     if !inside(one) || !inside(two) || !inside(three) {
         return Err((7, 0));
@@ -126,19 +132,21 @@ pub fn sample(meter: Meter, ring: &mut [i64], x: i64) -> Outcome<Meter> {
     if !inside(x) {
         return Err((3, 0));
     }
-    if n >= 2 * m {
+    if s >= 2 * m {
         let d = x - 2 * one + two;
         a += (d as i128 * d as i128) as u128;
+        k += 1;
         window += d;
-        if n >= 3 * m {
+        if s >= 3 * m {
             window -= one - 2 * two + three;
         }
-        if n + 1 >= 3 * m {
+        if s + 1 >= 3 * m {
             b += (window as i128 * window as i128) as u128;
+            c += 1;
         }
     }
-    ring[slot(n)] = x;
-    Ok(Meter { m, n: n + 1, a, b, window })
+    ring[slot(s)] = x;
+    Ok(Meter { m, n: n + 1, stretch: s + 1, k, c, a, b, window })
 }
 
 /// The kind and count of a file, its values written to the buffer once all are known to be good.

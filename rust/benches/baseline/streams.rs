@@ -24,7 +24,7 @@ pub fn wrapped_stream(samples: &[i64], m: u64, ring: &mut [i64]) -> Meter {
 }
 
 pub fn plain_stream(samples: &[i64], m: u64, ring: &mut [i64]) -> straightforward::Meter {
-    let mut meter = straightforward::Meter { m, n: 0, a: 0, b: 0, window: 0 };
+    let mut meter = straightforward::Meter { m, n: 0, stretch: 0, k: 0, c: 0, a: 0, b: 0, window: 0 };
     for &x in samples {
         meter = straightforward::sample(meter, ring, x).expect("a sample in range is taken");
     }

@@ -6,7 +6,7 @@ use super::file::{file_of, read_file, read_record, record_of, write_file, write_
 use super::floats::{float_sums, sample_of, FloatSums};
 use super::fractions::*;
 use super::frequency::{frequency_from_phase, phase_from_frequency, phase_from_start};
-use super::meter;
+use super::meter::{self, Meter};
 use super::noise::{bars, half_width, noise_of_record, noise_type, Bars, Noise};
 use super::salvage::{salvage, Salvaged};
 use super::sheet::{lines, sheet, sheet_record, sheet_total, Sheet, Totals};
@@ -215,6 +215,39 @@ fn meter_follows_the_sums() {
             }
         }
     }
+}
+
+/// A gap before every place of a stream in turn, and two where they fall together: the report is the total over the stretches.
+#[test]
+fn meter_adds_up_over_stretches() {
+    let x = [3, 1, 4, -1, 5, -9, 2, 6, 5, 3, 5, -8, 9];
+    let of_all = |stretches: [&[i64]; 3], sum: &dyn Fn(&[i64]) -> Answer<Sum>| {
+        let sums: Vec<Sum> = stretches.into_iter().filter_map(|stretch| sum(stretch).ok()).collect();
+        let total = Sum { total: sums.iter().map(|sum| sum.total).sum(), count: sums.iter().map(|sum| sum.count).sum() };
+        (total.count > 0).then_some(total)
+    };
+    for m in 1..=3u64 {
+        for first in 0..=x.len() {
+            for second in first..=x.len() {
+                let mut ring = [END + 9; 9];
+                let mut now = meter::start(m, &ring).unwrap();
+                for n in 0..=x.len() {
+                    for _ in [first, second].into_iter().filter(|&gap| gap == n) {
+                        now = meter::gap(&now).unwrap();
+                    }
+                    if let Some(&x) = x.get(n) {
+                        now = meter::sample(&now, &mut ring, x).unwrap();
+                    }
+                }
+                let sums = meter::report(&now).unwrap();
+                let stretches = [&x[..first], &x[first..second], &x[second..]];
+                assert_eq!(sums.allan, of_all(stretches, &|stretch| allan_sum(stretch, m)));
+                assert_eq!(sums.modified, of_all(stretches, &|stretch| modified_sum(stretch, m)));
+                assert_eq!((now.n, now.stretch), (13, (x.len() - second) as u64));
+            }
+        }
+    }
+    assert_eq!(meter::gap(&Meter::NOUGHTS), refused(7, 0));
 }
 
 #[test]

@@ -90,8 +90,8 @@ impl Words for boundary::BarsAnswer {
 
 impl Words for boundary::MeterAnswer {
     fn words(&self) -> Vec<u64> {
-        let meter = &self.meter;
-        vec![self.number, self.place, meter.m, meter.n, meter.a.high, meter.a.low, meter.b.high, meter.b.low, meter.window as u64]
+        let boundary::Meter { m, n, stretch, k, c, a, b, window } = self.meter;
+        vec![self.number, self.place, m, n, stretch, k, c, a.high, a.low, b.high, b.low, window as u64]
     }
 }
 
@@ -219,9 +219,10 @@ impl Values for Bars {
 }
 
 impl Values for Meter {
-    const LENGTH: usize = 7;
+    const LENGTH: usize = 10;
     fn values(&self) -> Vec<u64> {
-        vec![self.m, self.n, high(self.a), low(self.a), high(self.b), low(self.b), self.window as u64]
+        let Meter { m, n, stretch, k, c, a, b, window } = *self;
+        vec![m, n, stretch, k, c, high(a), low(a), high(b), low(b), window as u64]
     }
 }
 
@@ -322,9 +323,10 @@ impl Values for ploegelster::Bars {
 }
 
 impl Values for ploegelster::Meter {
-    const LENGTH: usize = 7;
+    const LENGTH: usize = 10;
     fn values(&self) -> Vec<u64> {
-        vec![self.m, self.n, self.a.high, self.a.low, self.b.high, self.b.low, self.window as u64]
+        let ploegelster::Meter { m, n, stretch, k, c, a, b, window } = *self;
+        vec![m, n, stretch, k, c, a.high, a.low, b.high, b.low, window as u64]
     }
 }
 

@@ -80,7 +80,8 @@ pub fn bars(r: u64, alpha: i64, intervals: u64) -> BarsAnswer {
 
 /// The meter with the fields of the second implementation's.
 pub fn meter(meter: &independent::meter::Meter) -> Meter {
-    Meter { m: meter.m, n: meter.n, a: wide(meter.a), b: wide(meter.b), window: meter.window }
+    let independent::meter::Meter { m, n, stretch, k, c, a, b, window } = *meter;
+    Meter { m, n, stretch, k, c, a: wide(a), b: wide(b), window }
 }
 
 pub fn meter_start(old: Meter, m: u64, ring: &[i64]) -> MeterAnswer {
@@ -89,6 +90,10 @@ pub fn meter_start(old: Meter, m: u64, ring: &[i64]) -> MeterAnswer {
 
 pub fn meter_sample(meter: Meter, ring: &mut [i64], x: i64) -> MeterAnswer {
     unsafe { plg_meter_sample(meter, ring.as_mut_ptr(), ring.len(), x) }
+}
+
+pub fn meter_gap(meter: Meter) -> MeterAnswer {
+    unsafe { plg_meter_gap(meter) }
 }
 
 pub fn meter_report(meter: Meter) -> SumsAnswer {
