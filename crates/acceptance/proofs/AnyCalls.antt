@@ -22,7 +22,7 @@ use Rattle.meter.specs.declared.Meter.{Meter}
 use Rattle.meter.specs.declared.MeterAnswer.{MeterAnswer}
 use Rattle.meter.specs.declared.Report.{Report}
 use Rattle.meter.proofs.TestLaws.{holds-together}
-use Rattle.meter.proofs.Running.{meterAfter, publishedReport, Running, start-unrefused, starts-running, started-is, takes, taken-was-allowed, takes-gaps, reports, with-gap-is, runs-on-after-gap, with-sample-is, runs-on}
+use Rattle.meter.proofs.Running.{meterAfter, publishedReport, Running, start-unrefused, starts-running, started-is, takes, taken-was-allowed, holds, reports, with-gap-is, runs-on-after-gap, with-sample-is, runs-on}
 use Rattle.acceptance.specs.Noughts.{Refused}
 use Rattle.acceptance.specs.Calls.{Starts, Samples, Gaps, Reports, Trace, Alike, by-contract, begin, start-accepted, start-refused, sample-accepted, sample-refused, gap-accepted, gap-refused, reported, no-stretch, one-more}
 
@@ -232,7 +232,7 @@ pub takes-every-gap : {x : Meter} {ring h : List ℤ} {past : List (List ℤ)} {
 unfolding gapAnswer meterAnswer
 takes-every-gap t started call =
     let now = trace-runs t started in
-    ap (λ (y : MeterAnswer). y .number) (gap-answers call ∙ ap gapAnswer (now .0)) ∙ simp (takes-gaps (now .1))
+    ap (λ (y : MeterAnswer). y .number) (gap-answers call ∙ ap gapAnswer (now .0)) ∙ simp (holds (now .1))
 
 -- A gap before the first sample changes nothing.
 pub early-gap-changes-nothing : {x : Meter} {m : ℕ} {ring : List ℤ} {z z′ : MeterAnswer} → Starts x m ring z → z .number ≡ 0 → Gaps (z .meter) z′ →

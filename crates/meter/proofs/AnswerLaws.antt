@@ -96,16 +96,22 @@ module _ (x : Meter) where
 -- ---- a sample call
 
 -- where no slot lies
-module _ (x : Meter) (ring : List ℤ) (v : ℤ) (none-lies : slotsLie x ring ≡ false) where
-  pub bad-meter-refused : refusedAnswer 7 x ≡ sampleAnswer x ring v
-  unfolding sampleAnswer meterAnswer
-  bad-meter-refused = sym (simp (no-slot-refused x ring v none-lies))
+pub bad-meter-refused : (x : Meter) (ring : List ℤ) (v : ℤ) → slotsLie x ring ≡ false → (refusedAnswer 7 x ≡ sampleAnswer x ring v) × (ring ≡ ringLeft x ring v)
+unfolding sampleAnswer meterAnswer ringLeft
+bad-meter-refused x ring v none-lies = let refuses = no-slot-refused x ring v none-lies in (sym (simp refuses), sym (simp refuses))
 
-  pub bad-meter-leaves-ring : ring ≡ ringLeft x ring v
-  unfolding ringLeft
-  bad-meter-leaves-ring = sym (simp (no-slot-refused x ring v none-lies))
+-- else: what the call does by the number that the tests gave, the old samples being as they were read
+pub record SampleCall (x : Meter) (ring : List ℤ) (v one two three : ℤ) (number : ℕ) : Type 0 where
+  -- a refusal leaves the meter and the ring as they came
+  pub refuses : (number ≡ 0 → ⊥) → (refusedAnswer number x ≡ sampleAnswer x ring v) × (ring ≡ ringLeft x ring v)
+  -- else the meter takes the sample, and the ring holds it in its own slot
+  pub lets-in : number ≡ 0 → (holdsTogether x ≡ true) × (x .n < 32768)
+      × (natAbs (read one) ≤ 2 ^ 40) × (natAbs (read two) ≤ 2 ^ 40) × (natAbs (read three) ≤ 2 ^ 40) × (natAbs (read v) ≤ 2 ^ 40)
+  pub gives : number ≡ 0 → {new : Meter} →
+      new ≡ withTerms x (read v -ℤ pos 2 *ℤ read one +ℤ read two)
+      (windowWith x (read v -ℤ pos 2 *ℤ read one +ℤ read two) (read one -ℤ pos 2 *ℤ read two +ℤ read three)) →
+      (givenAnswer new ≡ sampleAnswer x ring v) × (set ring (x .stretch % (3 * x .m)) (read v) ≡ ringLeft x ring v)
 
--- else: the old samples as they were read, and the number that the tests gave
 module _ (x : Meter) (ring : List ℤ) (v : ℤ) (fits : SFits w64 v) (lies : slotsLie x ring ≡ true) {one two three : ℤ}
     (one-is : one ≡ readOne x ring) (two-is : two ≡ readTwo x ring) (three-is : three ≡ readThree x ring)
     (one-fits : SFits w64 one) (two-fits : SFits w64 two) (three-fits : SFits w64 three) {number : ℕ}
@@ -126,25 +132,12 @@ module _ (x : Meter) (ring : List ℤ) (v : ℤ) (fits : SFits w64 v) (lies : sl
   refusal-is =
       slots-refusal-is x ring v lies ∙ ap (λ (k : ℕ). refused k 0) (sym (given ∙ rw (one-read, two-read, three-read, sample-read)))
 
-  -- a refusal leaves the meter and the ring as they came
-  module _ (refuses : number ≡ 0 → ⊥) where
-    pub sample-call-refused : refusedAnswer number x ≡ sampleAnswer x ring v
-    unfolding sampleAnswer meterAnswer
-    sample-call-refused = sym (simp (refusal-is, ne-eqb number 0 refuses))
-
-    pub ring-unchanged : ring ≡ ringLeft x ring v
-    unfolding ringLeft
-    ring-unchanged = sym (simp (refusal-is, ne-eqb number 0 refuses))
-
-  -- else the meter takes the sample, and the ring holds it in its own slot
-  module _ (refuses-nothing : number ≡ 0) where
-    sample-unrefused : sampleRefusal x ring v ≡ none
-    sample-unrefused = refusal-is ∙ ap (λ (t : ℕ). refused t 0) refuses-nothing
-
-    pub sample-lets-in : (holdsTogether x ≡ true) × (x .n < 32768)
-        × (natAbs (read one) ≤ 2 ^ 40) × (natAbs (read two) ≤ 2 ^ 40) × (natAbs (read three) ≤ 2 ^ 40) × (natAbs (read v) ≤ 2 ^ 40)
-    sample-lets-in =
-        let known = let-in x ring v sample-unrefused in
+  pub sample-call : SampleCall x ring v one two three number
+  unfolding sampleAnswer meterAnswer ringLeft ringWith
+  sample-call = record {
+    refuses = λ some. let fails = ne-eqb number 0 some in (sym (simp (refusal-is, fails)), sym (simp (refusal-is, fails)));
+    lets-in = λ nothing.
+        let known = let-in x ring v (unrefused nothing) in
         let good : readGood x ring ≡ true = sym (ring-by-what-is-read x ring (slots-lie x ring lies .1)) ∙ known .ring-holds in
         let both = second-true (inRange (readOne x ring)) _ good in
         rw (one-read, two-read, three-read, sample-read) (
@@ -154,17 +147,13 @@ module _ (x : Meter) (ring : List ℤ) (v : ℤ) (fits : SFits w64 v) (lies : sl
           sample-bounded _ (first-true (inRange (readTwo x ring)) _ both),
           sample-bounded _ (second-true (inRange (readTwo x ring)) _ both),
           known .sample-within,
-        )
-
-    pub sample-call-given : {new : Meter} →
-        new ≡ withTerms x (read v -ℤ pos 2 *ℤ read one +ℤ read two)
-        (windowWith x (read v -ℤ pos 2 *ℤ read one +ℤ read two) (read one -ℤ pos 2 *ℤ read two +ℤ read three)) →
-        givenAnswer new ≡ sampleAnswer x ring v
-    unfolding sampleAnswer meterAnswer
-    sample-call-given {new} new-is =
-        let taken : new ≡ withSample x ring v = new-is ∙ rw (one-read, two-read, three-read, sample-read) (sample-by-what-was-read x ring v) in
-        ap givenAnswer taken ∙ sym (simp sample-unrefused)
-
-    pub ring-written : set ring (x .stretch % (3 * x .m)) (read v) ≡ ringLeft x ring v
-    unfolding ringLeft ringWith
-    ring-written = ap (set ring (x .stretch % (3 * x .m))) sample-read ∙ sym (simp sample-unrefused)
+        );
+    gives = λ nothing {new} new-is.
+        let taken : new ≡ withSample x ring v = new-is ∙ rw (one-read, two-read, three-read, sample-read) (sample-by-what-was-read x ring v) in (
+          ap givenAnswer taken ∙ sym (simp (unrefused nothing)),
+          ap (set ring (x .stretch % (3 * x .m))) sample-read ∙ sym (simp (unrefused nothing)),
+        );
+  }
+    where
+      unrefused : number ≡ 0 → sampleRefusal x ring v ≡ none
+      unrefused nothing = refusal-is ∙ ap (λ (t : ℕ). refused t 0) nothing

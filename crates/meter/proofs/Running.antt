@@ -172,7 +172,8 @@ module _ {m : ℕ} {ring h : List ℤ} {past : List (List ℤ)} (run : Running m
   unfolding countsFit
   counts-fit = both-true (le-leb _ _ stretch-within) (both-true (le-leb _ _ (bounded-all .few-k)) (le-leb _ _ (bounded-all .few-c)))
 
-  holds : holdsTogether (meterAfter m h past) ≡ true
+  -- so that a gap is never refused
+  pub holds : holdsTogether (meterAfter m h past) ≡ true
   unfolding holdsTogether factorFits
   holds =
       simp (
@@ -222,10 +223,6 @@ module _ {m : ℕ} {ring h : List ℤ} {past : List (List ℤ)} (run : Running m
       let left : (full then outside) .number ≡ 0 = rw (refusal-is v) at unrefused in
       let room = eqb-false n 32768 (test-fails _ 2 0 (omega arith) (first-refuses-nothing full outside left)) in
       (not-false (inRange v) (test-fails _ 3 0 (omega arith) (rest-refuses-nothing full outside left)), omega (arith, run .not-too-many))
-
-  -- a gap is never refused
-  pub takes-gaps : holdsTogether (meterAfter m h past) ≡ true
-  takes-gaps = holds
 
   pub reports : reportAnswer (meterAfter m h past) ≡ publishedReport m (h ∷ past)
   unfolding reportAnswer publishedReport

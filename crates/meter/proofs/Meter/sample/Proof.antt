@@ -6,7 +6,7 @@ use Prim.Native.Nat.{_*_, _%_, _≤_, _<_}
 use native.Mathlib.Omega.{arith}
 use lib.ListN.{length}
 use Rattle.meter.proofs.TestLaws.{holds-together, slot-inside, slotsLie, slots-lie}
-use Rattle.meter.proofs.AnswerLaws.{bad-meter-refused, bad-meter-leaves-ring, sample-call-refused, ring-unchanged, sample-lets-in, sample-call-given, ring-written}
+use Rattle.meter.proofs.AnswerLaws.{bad-meter-refused, SampleCall, sample-call}
 use Rattle.meter.proofs.Meter.sample.Statement.{statement}
 use Rattle.meter.proofs.Meter.sample.Tie as tie
 
@@ -27,6 +27,22 @@ module _ (passed : tie.Then1) where
         known .1,
         slot-inside (s .args .self .m) (s .args .self .stretch) (length (s .args .ring .now)) (meter .factor-least) (known .1),
       )
+
+-- what the call does by the number that the tests gave
+tested : (number : tie.After-sample-number) →
+    let third = number .before in
+    let second = third .before .before in
+    let first = second .before .before in
+    let s = first .before .before .before .before .before .before in
+    SampleCall (s .args .self) (s .args .ring .now) (s .args .x) (first .old .result) (second .old2 .result) (third .old3 .result) (number .sample-number .result)
+tested number =
+    let third = number .before in
+    let second = third .before .before in
+    let first = second .before .before in
+    let passed = first .before .before .before in
+    let s = passed .before .before .before in
+    sample-call (s .args .self) (s .args .ring .now) (s .args .x) (s .fits .x) (lies passed) (first .old .ensures) (second .old2 .ensures) (third .old3 .ensures)
+    (record { sfits = first .old .ok }) (record { sfits = second .old2 .ok }) (record { sfits = third .old3 .ok }) (number .sample-number .ensures)
 
 slots-lie-requires : tie.Need-slots-lie-requires
 slots-lie-requires c κs = search needs
@@ -72,25 +88,11 @@ same-length c = search needs
 
 returns : tie.Need-returns
 returns c =
-    let number = c .before .before in
-    let third = number .before in
-    let second = third .before .before in
-    let first = second .before .before in
-    let passed = first .before .before .before in
-    let s = passed .before .before .before in (
-      c .refused .ensures ∙ sample-call-refused (s .args .self) (s .args .ring .now) (s .args .x) (s .fits .x) (lies passed) (first .old .ensures) (second .old2 .ensures) (third .old3 .ensures) (record { sfits = first .old .ok }) (record { sfits = second .old2 .ok }) (record { sfits = third .old3 .ok }) (number .sample-number .ensures) (c .before .if2 .taken),
-      ring-unchanged (s .args .self) (s .args .ring .now) (s .args .x) (s .fits .x) (lies passed) (first .old .ensures) (second .old2 .ensures) (third .old3 .ensures) (record { sfits = first .old .ok }) (record { sfits = second .old2 .ok }) (record { sfits = third .old3 .ok }) (number .sample-number .ensures) (c .before .if2 .taken),
-    )
+    let answers = tested (c .before .before) .refuses (c .before .if2 .taken) in
+    (c .refused .ensures ∙ answers .0, answers .1)
 
 with-sample-requires : tie.Need-with-sample-requires
-with-sample-requires c κs =
-    let number = c .before in
-    let third = number .before in
-    let second = third .before .before in
-    let first = second .before .before in
-    let passed = first .before .before .before in
-    let s = passed .before .before .before in
-    sample-lets-in (s .args .self) (s .args .ring .now) (s .args .x) (s .fits .x) (lies passed) (first .old .ensures) (second .old2 .ensures) (third .old3 .ensures) (record { sfits = first .old .ok }) (record { sfits = second .old2 .ok }) (record { sfits = third .old3 .ok }) (number .sample-number .ensures) (c .if2 .left)
+with-sample-requires c κs = tested (c .before) .lets-in (c .if2 .left)
 
 mul-x : tie.Need-mul-x
 mul-x c =
@@ -104,16 +106,7 @@ same-length-2 : tie.Need-same-length-2
 same-length-2 c = search needs
 
 returns-2 : tie.Need-returns-2
-returns-2 c =
-    let number = c .before .before in
-    let third = number .before in
-    let second = third .before .before in
-    let first = second .before .before in
-    let passed = first .before .before .before in
-    let s = passed .before .before .before in (
-      sample-call-given (s .args .self) (s .args .ring .now) (s .args .x) (s .fits .x) (lies passed) (first .old .ensures) (second .old2 .ensures) (third .old3 .ensures) (record { sfits = first .old .ok }) (record { sfits = second .old2 .ok }) (record { sfits = third .old3 .ok }) (number .sample-number .ensures) (c .before .if2 .left) (c .with-sample .ensures),
-      ring-written (s .args .self) (s .args .ring .now) (s .args .x) (s .fits .x) (lies passed) (first .old .ensures) (second .old2 .ensures) (third .old3 .ensures) (record { sfits = first .old .ok }) (record { sfits = second .old2 .ok }) (record { sfits = third .old3 .ok }) (number .sample-number .ensures) (c .before .if2 .left),
-    )
+returns-2 c = tested (c .before .before) .gives (c .before .if2 .left) (c .with-sample .ensures)
 
 refused-requires-2 : tie.Need-refused-requires-2
 refused-requires-2 c κs = search needs
@@ -123,12 +116,10 @@ same-length-3 c = search needs
 
 returns-3 : tie.Need-returns-3
 returns-3 c =
-    let tested = c .before .before in
-    let s = tested .before .before in
-    let none-lies = sym (tested .slots-lie .ensures) ∙ c .before .if1 .left in (
-      c .refused2 .ensures ∙ bad-meter-refused (s .args .self) (s .args .ring .now) (s .args .x) none-lies,
-      bad-meter-leaves-ring (s .args .self) (s .args .ring .now) (s .args .x) none-lies,
-    )
+    let first = c .before .before in
+    let s = first .before .before in
+    let answers = bad-meter-refused (s .args .self) (s .args .ring .now) (s .args .x) (sym (first .slots-lie .ensures) ∙ c .before .if1 .left) in
+    (c .refused2 .ensures ∙ answers .0, answers .1)
 
 pub sample-spec : {M : Type 1} → statement M
 sample-spec =
