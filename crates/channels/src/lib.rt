@@ -1,5 +1,8 @@
 // Sixteen meters that share one lent ring: a call on a channel is the meter's own call with the channel's part as its ring. What a meter does is left to
 // crate meter.
+
+#![tactic(auto)]
+
 ghost use Rattle.std.specs.Prelude.{◌≡◌, ◌+◌, ◌*◌, ◌/◌, ◌≤◌};
 ghost use Rattle.channels.specs.Shares.{meter_of};
 ghost use Rattle.channels.specs.Answers.{no_channel, bank_answer};
@@ -15,13 +18,13 @@ pub const LAST_CHANNEL: u64 = 15;
 pub const CHANNELS: usize = 16;
 
 // A meter for each channel.
-#[derive(Drop)]
+#[derive(Clone, Copy)]
 pub struct Bank {
     pub meters: [Meter; 16],
 }
 
 // A bank as a call gives it back: with the channel's new meter, or as it came where the call is refused.
-#[derive(Drop)]
+#[derive(Clone, Copy)]
 pub struct BankAnswer {
     pub number: u64,
     pub place: u64,
@@ -117,7 +120,7 @@ pub fn channel_report(meter: Meter, channel: u64) -> Report
 }
 
 // Where a channel's part of the ring begins, and where it ends.
-#[derive(Drop)]
+#[derive(Clone, Copy)]
 struct Span {
     pub from: usize,
     pub to: usize,

@@ -1,4 +1,7 @@
 // Which of two records is the quieter, by their Allan variances as exact fractions. The sums and the checks of a record are those of crate sums.
+
+#![tactic(auto)]
+
 ghost use Rattle.std.specs.Prelude.{◌≡◌, ◌*◌, ◌^◌, ◌≤◌, ◌<◌, leb};
 ghost use Rattle.wide.specs.Wide.{value, halves};
 ghost use Rattle.compare.specs.Quieter.{quieter_answer, quieter_record};
@@ -12,7 +15,7 @@ const SECOND: u64 = 2;
 
 // Which of the two records is the quieter: 1 the first, 2 the second; 0 beside a refusal.
 #[repr(C)]
-#[derive(Drop)]
+#[derive(Clone, Copy)]
 pub struct QuieterAnswer {
     pub number: u64,
     pub place: u64,

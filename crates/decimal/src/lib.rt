@@ -1,4 +1,7 @@
 // Whole numbers of 128 bits as decimal digits. What stands between numbers is left to others.
+
+#![tactic(auto)]
+
 ghost use Rattle.std.specs.Prelude.{◌≡◌, ◌++◌, ◌+◌, ◌-◌, ◌<◌, leb, length, take};
 ghost use Rattle.wide.specs.Wide.{value, division_of};
 ghost use Rattle.decimal.specs.Decimal.{decimal};

@@ -1,5 +1,8 @@
 // The drift figure of a record, and a record without its drift. Nothing is written where a call is refused. The check of samples is that of crate
 // record; sums and variances of what is left are left to others.
+
+#![tactic(auto)]
+
 ghost use Rattle.std.specs.Prelude.{◌≡◌, ◌-◌, ◌*◌, ◌≤◌, ◌<◌, ◌^◌, pos, ◌+ℤ◌, ◌*ℤ◌, length};
 ghost use Rattle.laws.specs.Lists.{at, written, first_failing};
 ghost use Rattle.record.specs.Refusals.{none, in_range};
@@ -13,7 +16,7 @@ pub const FEWEST_SAMPLES: usize = 3;
 
 // P over R.
 #[repr(C)]
-#[derive(Drop)]
+#[derive(Clone, Copy)]
 pub struct DriftAnswer {
     pub number: u64,
     pub place: u64,
@@ -77,7 +80,7 @@ pub fn remove_drift(samples: &[i64], buffer: &mut [i64]) -> CountAnswer
 }
 
 // P = whole * R + rest, with rest below R.
-#[derive(Drop)]
+#[derive(Clone, Copy)]
 struct Slope {
     pub whole: i64,
     pub rest: u64,

@@ -1,6 +1,9 @@
 // Figures that the library works as it runs, a line each: the rules' that bear no star, numbers at the ends of what two halves hold, long
 // records at many factors, streams fed to the running meter, float readings, buffers that are filled, and what the app draws. The second
 // implementation, rust/src/bin/figures, prints the same lines from its own working.
+
+#![tactic(auto)]
+
 mod bank;
 mod bars;
 mod buffers;

@@ -1,5 +1,8 @@
 // Phase from frequency and back, into lent buffers. Nothing is written where a call is refused. The check of samples is that of crate record; files
 // of either kind are left to crate phr.
+
+#![tactic(auto)]
+
 ghost use Rattle.std.specs.Prelude.{◌≡◌, ◌+◌, ◌-◌, ◌≤◌, ◌<◌, ◌^◌, nat_abs, ◌+ℤ◌, length};
 ghost use Rattle.laws.specs.Lists.{written};
 ghost use Rattle.record.specs.Refusals.{none, in_range, range_refusal};

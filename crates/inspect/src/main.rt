@@ -1,5 +1,8 @@
 // Reads record files of either version that its arguments name, and writes for each a line with its version, its kind, its count and its figures, or
 // what it is refused for. A frequency record is turned into phase first, from its start. What is read is worked by the library; this program opens, reads and prints.
+
+#![tactic(auto)]
+
 mod contents;
 mod help;
 mod line;

@@ -1,5 +1,8 @@
 // The sheet of all factors: the lines of a record file and the closing line, as text in lent buffers. Figures are those of the crates below; files are
 // opened and read by others.
+
+#![tactic(auto)]
+
 mod columns;
 mod lines;
 mod samples;
@@ -13,7 +16,7 @@ use record::CountAnswer;
 
 // K and C added up over the lines of a sheet. All noughts at first.
 #[repr(C)]
-#[derive(Drop)]
+#[derive(Clone, Copy)]
 pub struct Totals {
     pub k: u64,
     pub c: u64,
@@ -21,7 +24,7 @@ pub struct Totals {
 
 // How many bytes of text were written, and the totals with the record's; beside a refusal they are as they came.
 #[repr(C)]
-#[derive(Drop)]
+#[derive(Clone, Copy)]
 pub struct SheetAnswer {
     pub number: u64,
     pub place: u64,

@@ -10,7 +10,7 @@ use crate::columns::{SPACE, allan_columns, alpha_column, number_column, put, tim
 use crate::{Totals, samples};
 
 // Where the text ends so far, and the totals with the lines in it.
-#[derive(Drop)]
+#[derive(Clone, Copy)]
 pub(crate) struct Lines {
     pub at: usize,
     pub totals: Totals,

@@ -1,4 +1,7 @@
 // Salvage of a damaged record file: the proper file that can still be had of it. What a file is, and how its bytes are read, is left to phr.
+
+#![tactic(auto)]
+
 ghost use Rattle.std.specs.Prelude.{◌≡◌, cond, ◌++◌, ◌+◌, ◌-◌, ◌*◌, ◌/◌, ◌%◌, ◌≤◌, min, ltb, eqb, length, take, drop, set};
 ghost use Rattle.record.specs.Answers.{buffer_left};
 ghost use Rattle.mending.specs.Salvage.{salvaged_file, salvage_refusal, salvage_answer};
@@ -6,7 +9,7 @@ ghost use Rattle.mending.specs.Salvage.{salvaged_file, salvage_refusal, salvage_
 // How many values the header of the damaged file says, how many were kept, its length in bytes less the new one's, and 1 if a value outside its range
 // was met, else 0.
 #[repr(C)]
-#[derive(Drop)]
+#[derive(Clone, Copy)]
 pub struct SalvageAnswer {
     pub number: u64,
     pub place: u64,

@@ -1,5 +1,8 @@
 // The running meter: the Allan and modified sums of a stream with its gaps, sample by sample, at the same cost whatever the factor. The ring that holds
 // the latest samples is lent. Fractions, deviations and whole records are left to others.
+
+#![tactic(auto)]
+
 mod arithmetic;
 mod slots;
 mod tests;
@@ -16,7 +19,7 @@ use wide::Wide;
 // The factor m, the accepted count n, how many of these are in the present stretch, the term counts K and C, the sums A and B, and the sum of the latest
 // second differences of the stretch, all of them up to m.
 #[repr(C)]
-#[derive(Drop)]
+#[derive(Clone, Copy)]
 pub struct Meter {
     pub m: u64,
     pub n: u64,
@@ -30,7 +33,7 @@ pub struct Meter {
 
 // A meter as a call gives it back: the new one, or the one that came where the call is refused.
 #[repr(C)]
-#[derive(Drop)]
+#[derive(Clone, Copy)]
 pub struct MeterAnswer {
     pub number: u64,
     pub place: u64,
@@ -39,7 +42,7 @@ pub struct MeterAnswer {
 
 // The two sums of a stream, each the total over its stretches.
 #[repr(C)]
-#[derive(Drop)]
+#[derive(Clone, Copy)]
 pub struct Report {
     pub number: u64,
     pub place: u64,

@@ -9,7 +9,7 @@ use record::Refusal;
 
 // Three doubles: the lower end, the deviation, the upper end.
 #[repr(C)]
-#[derive(Drop)]
+#[derive(Clone, Copy)]
 pub struct Bar {
     pub low: f64,
     pub mid: f64,
@@ -18,7 +18,7 @@ pub struct Bar {
 
 // A bar row beside the refusal.
 #[repr(C)]
-#[derive(Drop)]
+#[derive(Clone, Copy)]
 pub struct BarsAnswer {
     pub number: u64,
     pub place: u64,

@@ -1,4 +1,7 @@
 // Noise types, from two time deviations or from a record, and error bars. Deviations are those of crate variances, doubles those of crate plot.
+
+#![tactic(auto)]
+
 pub mod bars;
 
 ghost use Rattle.std.specs.Prelude.{◌≡◌, ◌≤◌, pos, nat_abs, ◌-ℤ◌};
@@ -9,7 +12,7 @@ ghost use Rattle.noise.specs.Noise.{alpha_of, kappa_of, noise_of, noise_refusal,
 use record::{Demand, Refusal};
 
 // The five types; no other can be handed in.
-#[derive(Drop)]
+#[derive(Clone, Copy)]
 pub enum Noise {
     WhitePhase,
     FlickerPhase,
@@ -19,7 +22,7 @@ pub enum Noise {
 }
 
 // A type; beside a refusal it is the first of the table.
-#[derive(Drop)]
+#[derive(Clone, Copy)]
 pub struct NoiseAnswer {
     pub number: u64,
     pub place: u64,

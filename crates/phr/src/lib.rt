@@ -1,5 +1,8 @@
 // The record file, read and written as bytes: version 1, and version 2 with a starting phase. What is in a record, and what is worked from it, is left
 // to others.
+
+#![tactic(auto)]
+
 mod header;
 mod refusals;
 mod values;
@@ -18,7 +21,7 @@ use record::{CountAnswer, Refusal};
 
 // The kind of a file of version 1 and how many values it holds.
 #[repr(C)]
-#[derive(Drop)]
+#[derive(Clone, Copy)]
 pub struct ReadAnswer {
     pub number: u64,
     pub place: u64,
@@ -28,7 +31,7 @@ pub struct ReadAnswer {
 
 // The version, kind and starting phase of a file of either version and how many values it holds. The start is 0 in version 1.
 #[repr(C)]
-#[derive(Drop)]
+#[derive(Clone, Copy)]
 pub struct RecordAnswer {
     pub number: u64,
     pub place: u64,

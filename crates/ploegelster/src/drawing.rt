@@ -15,7 +15,7 @@ use wide::Wide;
 
 // A dot as a kind, 0 nought, 1 drawn or 2 too few, and a double.
 #[repr(C)]
-#[derive(Drop)]
+#[derive(Clone, Copy)]
 pub struct ToldDot {
     pub number: u64,
     pub place: u64,
@@ -25,7 +25,7 @@ pub struct ToldDot {
 
 // A noise type as its alpha.
 #[repr(C)]
-#[derive(Drop)]
+#[derive(Clone, Copy)]
 pub struct ToldNoise {
     pub number: u64,
     pub place: u64,

@@ -9,7 +9,7 @@ use variances::DeviationAnswer;
 use wide::Wide;
 
 // What stands at a place of the plot.
-#[derive(Drop)]
+#[derive(Clone, Copy)]
 pub enum Dot {
     Drawn(f64),
     Nought,
@@ -17,7 +17,7 @@ pub enum Dot {
 }
 
 // A dot; beside a refusal it is nought.
-#[derive(Drop)]
+#[derive(Clone, Copy)]
 pub struct DotAnswer {
     pub number: u64,
     pub place: u64,

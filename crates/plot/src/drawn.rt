@@ -5,7 +5,7 @@ ghost use Rattle.plot.specs.Drawn.{plus_zero, drawn_number, drawn_answer};
 
 // A double.
 #[repr(C)]
-#[derive(Drop)]
+#[derive(Clone, Copy)]
 pub struct DrawnAnswer {
     pub number: u64,
     pub place: u64,

@@ -1,4 +1,7 @@
 // Float readings, lent whole: turned into samples in a lent buffer, and their sums. Sums of samples are those of crate sums.
+
+#![tactic(auto)]
+
 mod reading;
 
 ghost use Rattle.std.specs.Prelude.{◌≡◌, map, ◌≤◌, length};
@@ -14,7 +17,7 @@ use sums::{Part, SumAnswer};
 
 // The Allan sum, the modified sum with its own number where it is not due, and how many readings were changed.
 #[repr(C)]
-#[derive(Drop)]
+#[derive(Clone, Copy)]
 pub struct FloatSums {
     pub number: u64,
     pub place: u64,

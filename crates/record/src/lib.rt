@@ -1,5 +1,7 @@
 // The limits of records, the refusal numbers, and the checks that entries share. What is worked from a record is left to others.
 
+#![tactic(auto)]
+
 ghost use Rattle.std.specs.Prelude.{◌≡◌, ◌+◌, ◌%◌, ◌^◌, true};
 ghost use Rattle.std.specs.Int.{w64};
 ghost use Rattle.std.proofs.Common.{of_z};
@@ -38,7 +40,7 @@ pub const BAD_FILE: u64 = 9;
 pub const BAD_CHANNEL: u64 = 11;
 
 // What is refused and where; number 0 refuses nothing.
-#[derive(Drop)]
+#[derive(Clone, Copy)]
 pub struct Refusal {
     pub number: u64,
     pub place: u64,
@@ -46,7 +48,7 @@ pub struct Refusal {
 
 // What an entry that fills a lent buffer answers: how many entries it wrote.
 #[repr(C)]
-#[derive(Drop)]
+#[derive(Clone, Copy)]
 pub struct CountAnswer {
     pub number: u64,
     pub place: u64,
@@ -54,7 +56,7 @@ pub struct CountAnswer {
 }
 
 // What an entry asks of a record at factor m: m from 1 to the largest, and each * m + besides samples or more.
-#[derive(Drop)]
+#[derive(Clone, Copy)]
 pub struct Demand {
     pub largest: u16,
     pub each: u16,

@@ -1,5 +1,8 @@
 // Mends the damaged record file that its argument names: the proper file that can still be had of it goes to standard output, and a line of report to
 // standard error. What is kept is worked by the library; this program opens, reads and writes.
+
+#![tactic(auto)]
+
 mod help;
 mod report;
 
@@ -9,7 +12,7 @@ use libc::STDOUT_FILENO;
 const LONGEST: usize = 262160;
 
 // What comes past the longest file: so many bytes, or a read that fails.
-#[derive(Drop)]
+#[derive(Clone, Copy)]
 enum More {
     Bytes(u64),
     Failed,

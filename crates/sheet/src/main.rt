@@ -1,5 +1,8 @@
 // Prints the sheet of all factors of the record files that its arguments name: the lines of each, and the closing line. Every byte of the sheet is the
 // library's; this program opens, reads and writes.
+
+#![tactic(auto)]
+
 mod help;
 mod trouble;
 

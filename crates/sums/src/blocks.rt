@@ -14,7 +14,7 @@ pub(crate) const BLOCK: usize = 128;
 const RISE: u64 = 4398046511104;
 
 // The last window of a block, and the sum of the squares of all.
-#[derive(Drop)]
+#[derive(Clone, Copy)]
 pub(crate) struct Block {
     pub window: i64,
     pub squares: Wide,

@@ -1,5 +1,8 @@
 // The published sums of a phase record. The checks of a record are those of crate record; variances, drawing and the running meter are left to
 // others.
+
+#![tactic(auto)]
+
 mod blocks;
 mod squares;
 mod totals;
@@ -27,7 +30,7 @@ pub const MODIFIED: Demand = Demand {
 
 // A sum of squares, and its count.
 #[repr(C)]
-#[derive(Drop)]
+#[derive(Clone, Copy)]
 pub struct SumAnswer {
     pub number: u64,
     pub place: u64,
@@ -37,7 +40,7 @@ pub struct SumAnswer {
 
 // One sum with its count as a part of an answer; its own number is 1 where it is not due.
 #[repr(C)]
-#[derive(Drop)]
+#[derive(Clone, Copy)]
 pub struct Part {
     pub number: u64,
     pub sum: Wide,

@@ -5,7 +5,7 @@ ghost use Rattle.wide.specs.Wide.{value, halves};
 use wide::Wide;
 
 // Sums over numbers u, with h and l the parts of u above and below 2^22: of h h, of h l, of l l, and of u itself.
-#[derive(Drop)]
+#[derive(Clone, Copy)]
 pub(crate) struct Parts {
     pub high: u64,
     pub cross: u64,

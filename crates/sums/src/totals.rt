@@ -47,7 +47,7 @@ pub(crate) fn modified_total(samples: &[i64], m: usize) -> Wide
 }
 
 // The squares of S_0 to S_j, and S_j.
-#[derive(Drop)]
+#[derive(Clone, Copy)]
 struct Windows {
     pub j: usize,
     pub window: i64,

@@ -1,5 +1,8 @@
 // Variances as fractions in lowest terms, and deviations, of a sum with its factor and count. The sums are those of crate sums; drawing is left to
 // others.
+
+#![tactic(auto)]
+
 mod deviations;
 mod fractions;
 mod refusals;
@@ -12,7 +15,7 @@ use wide::Wide;
 
 // A fraction in lowest terms.
 #[repr(C)]
-#[derive(Drop)]
+#[derive(Clone, Copy)]
 pub struct FractionAnswer {
     pub number: u64,
     pub place: u64,
@@ -22,7 +25,7 @@ pub struct FractionAnswer {
 
 // A deviation in units of 2^-20 picoseconds.
 #[repr(C)]
-#[derive(Drop)]
+#[derive(Clone, Copy)]
 pub struct DeviationAnswer {
     pub number: u64,
     pub place: u64,

@@ -1,5 +1,8 @@
 // Whole numbers of 128 bits as two halves of 64 bits: what sums of squares, their fractions and their roots are worked in. Ranges and refusals are
 // left to the crates above.
+
+#![tactic(auto)]
+
 mod long_division;
 mod three_words;
 
@@ -9,7 +12,7 @@ ghost use Rattle.wide.specs.Wide.{value, halves, wide_sum, wide_difference, divi
 
 // hi * 2^64 + lo.
 #[repr(C)]
-#[derive(Drop)]
+#[derive(Clone, Copy)]
 pub struct Wide {
     pub hi: u64,
     pub lo: u64,
@@ -108,7 +111,7 @@ pub fn with_square(total: Wide, z: i64) -> Wide
 }
 
 // What a division answers: where the divisor is nought, `defined` is false and the numbers are noughts.
-#[derive(Drop)]
+#[derive(Clone, Copy)]
 pub struct Division {
     pub defined: bool,
     pub quotient: Wide,

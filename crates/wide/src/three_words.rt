@@ -5,7 +5,7 @@ ghost use Rattle.wide.specs.Wide.{value};
 use crate::Wide;
 
 // top * 2^128 + middle * 2^64 + low.
-#[derive(Drop)]
+#[derive(Clone, Copy)]
 pub(crate) struct ThreeWords {
     pub top: u64,
     pub middle: u64,
