@@ -13,7 +13,7 @@ fn main() {
     println!("cargo:rerun-if-changed={}", archive.display());
     if !archive.is_file() {
         eprintln!("no archive {}", archive.display());
-        eprintln!("build it with `rt staticlib ploegelster` at the root of the repository, or name its folder in PLOEGELSTER_ARCHIVE");
+        eprintln!("build it with `tools/archive`, or name its folder in PLOEGELSTER_ARCHIVE");
         process::exit(1);
     }
     println!("cargo:rustc-link-search=native={}", folder.display());

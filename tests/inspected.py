@@ -1,7 +1,7 @@
 #!/usr/bin/env python3
 """Reads the record files of the program `inspect` again, from docs/RULES.md, and compares every line with the program's stored output. Then runs
-the program itself, target/bin/inspect, and looks at standard output and standard error apart, write by write. With the word `write` it writes the
-files anew, with `print` it prints the lines. Nothing here is shared with the library; the words of a refusal are read from the header."""
+the program itself, crates/inspect/out/inspect, and looks at standard output and standard error apart, write by write. With the word `write` it
+writes the files anew, with `print` it prints the lines. Nothing here is shared with the library; the words of a refusal are read from the header."""
 import os
 import random
 import re
@@ -261,7 +261,7 @@ def words_of_its_own(room):
         same(f"{part!r} in the help", part in text, True)
     source = open(os.path.join(CRATE, "src/words.rt")).read()
     for text in [WORDS[number] for number in range(1, 10)]:
-        same(f"{text!r} in src/words.rt", f'b"{text}"' in source, True)
+        same(f"{text!r} in src/words.rt", f'"{text}"' in source, True)
 
 
 def main():

@@ -92,7 +92,7 @@ class Room:
         self.folder, self.runs = folder, 0
         os.chmod(folder, 0o755)
         shutil.copytree(os.path.join(ROOT, "crates", crate, "data"), folder, dirs_exist_ok=True)
-        shutil.copy(os.path.join(ROOT, "target/bin", crate), self.path("program"))
+        shutil.copy(os.path.join(ROOT, "crates", crate, "out", crate), self.path("program"))
         for name in os.listdir(folder):
             os.chmod(self.path(name), 0o755)
 

@@ -1,16 +1,21 @@
 #!/usr/bin/env python3
-"""Holds docs/STATEMENTS.md against the logs of the must-fail edits:
+"""Holds docs/STATEMENTS.md against what rt says of the must-fail edits:
 
-    tests/refused.py [ROOT]
+    tests/refused.py SAID [ROOT]
 
-The table whose last column is "refused in" has a row for every edit, and names a proof in which that edit's log has an error of its own, one that is
-no mere consequence of another. Says a sentence for each row that lacks or is wrong, with the row as it should be. refused_test.py tries it."""
+SAID is a file with what `rt ci`, or `rt must-fail`, printed. The table whose last column is "refused in" has a row for every edit, and names the
+proof in which rt says that the edit is refused: that of the first error of its own, one that is no mere consequence of a name that is gone. Says a
+sentence for each row that lacks or is wrong, with the row as it should be. refused_test.py tries it."""
 import re
 import sys
 from pathlib import Path
 
 STATEMENTS = "docs/STATEMENTS.md"
 ROW = re.compile(r"^\| `(\w+)` \((\w+)\) \| (.*) \|$")
+# Not where a proof file names what the edit took away, and nothing else was found.
+REFUSED = re.compile(r"refused, as it must be(?: \(only by a limit [^)]*\))?: (.*)")
+# The files in which the proof of a function stands, in a folder of its own.
+OF_A_FUNCTION = {"Proof.antt", "Invariants.antt", "Answers.antt"}
 
 
 def source_of(root, crate, function):
@@ -27,18 +32,35 @@ def function(root, crate, modules):
     return f"`{owner}{modules[-1]}` (`{source_of(root, crate, modules[-1])}`)"
 
 
-def place(root, crate, file, name):
+def at_line(root, crate, file, number):
+    """How the table names the function in which a line of a source stands, attributes before it included; an edit moves no line."""
+    path = root / "crates" / crate / file
+    lines = path.read_text(encoding="utf-8").split("\n") if path.is_file() else []
+    while lines[number - 1:] and lines[number - 1].lstrip().startswith("#["):
+        number += 1
+    names, owner = [], ""
+    for line in lines[:number]:
+        block = re.match(r"impl\b[^{]*?(\w+)\s*\{", line)
+        owner = block[1] + "::" if block else "" if line.startswith("}") else owner
+        names += [owner + name for name in re.findall(r"^\s*(?:pub(?:\(\w+\))?\s+)?(?:extern \"C\" )?(?:const )?fn (\w+)", line)]
+    return f"`{names[-1]}` (`crates/{crate}/{file}`)" if names else None
+
+
+def place(root, crate, said):
     """How the table names the proof in which an error stands: a function, or a law and its file."""
-    *modules, last = file.split("/")
-    return function(root, crate, modules) if last == "Proof.antt" else f"`{name}` ({crate} `{last.removesuffix('.antt')}`)"
+    source = re.match(r"(?:note: )?(?:\./)?(src/\S+?):(\d+):\d+:", said)
+    if source:
+        return at_line(root, crate, source[1], int(source[2]))
+    proof = re.match(r"(?:note: )?(?:\./)?proofs/(\S+?):\d+:\d+: error: `([^`]+)`:", said)
+    if not proof:
+        return None
+    *modules, last = proof[1].split("/")
+    return function(root, crate, modules) if last in OF_A_FUNCTION else f"`{proof[2]}` ({crate} `{last.removesuffix('.antt')}`)"
 
 
-def own_errors(root, crate, log):
-    """The proofs with an error of their own, in the log's order, then functions whose proof was left to the prover and that it did not find."""
-    found = re.findall(r"/proofs/(\S+?):\d+:\d+: error: `([^`]+)`: (?!`[^`]+` was not admitted)", log)
-    left = re.findall(r"^fn \w+::([\w:]+): no proof", log, re.M)
-    places = [place(root, crate, file, name) for file, name in found] + [function(root, crate, name.split("::")) for name in left]
-    return list(dict.fromkeys(places))
+def told(said):
+    """Of each edit, by its crate and label, what rt says of it."""
+    return {(crate, label): text for crate, label, text in re.findall(r"^(?:rt: )?must-fail (\w+)/(\w+)\.edit: (.*)$", said, re.M)}
 
 
 def stated(root):
@@ -49,21 +71,25 @@ def stated(root):
     return {(row[2], row[1]): row[3] for row in rows if row}
 
 
-def lacks(root):
-    said, found = stated(root), []
+def lacks(root, said):
+    rows, tried, found = stated(root), told(said), []
     for edit in sorted(root.glob("crates/*/must-fail/*.edit")):
         crate, label = edit.parts[-3], edit.stem
-        log = root / "target/must-fail" / crate / label / ".log"
-        errors = own_errors(root, crate, log.read_text(encoding="utf-8")) if log.is_file() else []
-        if not errors:
-            found.append(f"{edit.relative_to(root)} has no log with an error of its own")
-        elif said.get((crate, label)) not in errors:
-            found.append(f"{STATEMENTS} should say: | `{label}` ({crate}) | {errors[0]} |")
-    return found, len(said)
+        text = tried.get((crate, label), "")
+        refused = REFUSED.fullmatch(text)
+        where = refused and place(root, crate, refused[1])
+        if not where:
+            found.append(f"{edit.relative_to(root)} was not refused by an error of its own: {text or 'rt says nothing of it'}")
+        elif rows.get((crate, label)) != where:
+            found.append(f"{STATEMENTS} should say: | `{label}` ({crate}) | {where} |")
+    edits = {(edit.parts[-3], edit.stem) for edit in root.glob("crates/*/must-fail/*.edit")}
+    found += [f"{STATEMENTS} has a row for `{label}` ({crate}), and there is no such edit" for crate, label in sorted(rows.keys() - edits)]
+    return found, len(rows)
 
 
 def main():
-    found, rows = lacks(Path(sys.argv[1] if len(sys.argv) > 1 else "."))
+    said = Path(sys.argv[1]).read_text(encoding="utf-8", errors="replace")
+    found, rows = lacks(Path(sys.argv[2] if len(sys.argv) > 2 else "."), said)
     for sentence in found:
         print(f"refused: {sentence}")
     print(f"refused: {rows} wrong programs and the proofs that refused them; {len(found)} lacks")

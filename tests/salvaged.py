@@ -1,7 +1,8 @@
 #!/usr/bin/env python3
-"""Works out again, from docs/RULES.md, what the program `salvage` makes of a damaged record file, and runs the program itself, target/bin/salvage: its
-standard output and its standard error are compared whole, each apart. What came out is salvaged again, and must not change. With the word `write` it
-writes the shipped files and the stored run anew. Nothing here is shared with the library; the words of a refusal are read from the header."""
+"""Works out again, from docs/RULES.md, what the program `salvage` makes of a damaged record file, and runs the program itself,
+crates/salvage/out/salvage: its standard output and its standard error are compared whole, each apart. What came out is salvaged again, and must not
+change. With the word `write` it writes the shipped files and the stored run anew. Nothing here is shared with the library; the words of a refusal are
+read from the header."""
 import os
 import random
 import subprocess

@@ -1,7 +1,7 @@
 #!/usr/bin/env python3
-"""Runs the program `sheet`, target/bin/sheet, and compares its standard output byte for byte with what the second implementation's program of the same
-name prints for the same files; its standard error is compared too. The sheets of a few files are held against docs/RULES.md besides, as they stand
-here. With the word `write` it writes the shipped files and the stored run anew. Nothing here is shared with the library."""
+"""Runs the program `sheet`, crates/sheet/out/sheet, and compares its standard output byte for byte with what the second implementation's program of
+the same name prints for the same files; its standard error is compared too. The sheets of a few files are held against docs/RULES.md besides, as they
+stand here. With the word `write` it writes the shipped files and the stored run anew. Nothing here is shared with the library."""
 import os
 import random
 import subprocess
