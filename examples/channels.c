@@ -20,7 +20,9 @@ typedef struct {
 /* Whether a call was answered; if not, why. */
 static int answered(const char *name, uint64_t number, uint64_t place)
 {
-    if (number != PLG_ANSWERED)
+    if (number == PLG_BAD_CHANNEL)
+        printf("%s: refused %" PRIu64 " (a channel above 15) at %" PRIu64 "\n", name, number, place);
+    else if (number != PLG_ANSWERED)
         printf("%s: refused %" PRIu64 " (%s) at %" PRIu64 "\n", name, number, plg_refusal_text(number), place);
     return number == PLG_ANSWERED;
 }

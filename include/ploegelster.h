@@ -99,6 +99,7 @@ extern "C" {
 #define PLG_BAD_METER 7
 #define PLG_NO_DEVIATION 8
 #define PLG_BAD_FILE 9
+/** A channel above 15. Calls on channels alone give it, and plg_refusal_text has no words for it. */
 #define PLG_BAD_CHANNEL 11
 
 /** A refusal's number in words. Any number has words. */
@@ -115,7 +116,6 @@ static inline const char *plg_refusal_text(uint64_t number)
     case PLG_BAD_METER: return "a meter that does not hold together";
     case PLG_NO_DEVIATION: return "a deviation of nought where a ratio or a bar is asked";
     case PLG_BAD_FILE: return "bad bytes or a bad length in a file";
-    case PLG_BAD_CHANNEL: return "a channel above 15";
     default: return "no number of this library";
     }
 }

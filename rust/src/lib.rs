@@ -45,7 +45,7 @@ mod sheet;
 mod sums;
 
 pub use boundary::{Meter, Totals, Wide};
-pub use channels::{channel_gap, channel_report, channel_sample, channel_start};
+pub use channels::{channel_gap, channel_report, channel_sample, channel_start, ChannelRefusal, BAD_CHANNEL};
 pub use compare::{quieter, quieter_record, Quieter};
 pub use file::{file_length, read_file, read_record, record_length, salvage, write_file, write_record, Contents, Kind, Record, Salvage};
 pub use meter::{meter_gap, meter_report, meter_sample, meter_start};

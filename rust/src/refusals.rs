@@ -3,7 +3,7 @@
 use std::error::Error;
 use std::fmt::{self, Display, Formatter};
 
-/// Why a call was refused: one of the library's ten numbers.
+/// Why a call was refused: one of the library's nine numbers.
 #[non_exhaustive]
 #[derive(Clone, Copy, Debug, PartialEq, Eq, Hash)]
 pub enum Ground {
@@ -25,12 +25,10 @@ pub enum Ground {
     NoDeviation = 8,
     /// 9: bad bytes or a bad length in a file. The place is the byte's offset.
     BadFile = 9,
-    /// 11: a channel above 15. The place is 0.
-    BadChannel = 11,
 }
 
 impl Ground {
-    /// The ground with this number; only 1 to 9 and 11 are numbers of one.
+    /// The ground with this number; only 1 to 9 are numbers of one.
     pub fn from_number(number: u64) -> Option<Ground> {
         match number {
             1 => Some(Ground::TooFew),
@@ -42,12 +40,11 @@ impl Ground {
             7 => Some(Ground::BadMeter),
             8 => Some(Ground::NoDeviation),
             9 => Some(Ground::BadFile),
-            11 => Some(Ground::BadChannel),
             _ => None,
         }
     }
 
-    /// The ground's number, from 1 to 9 or 11.
+    /// The ground's number, from 1 to 9.
     pub fn number(self) -> u64 {
         self as u64
     }
@@ -70,7 +67,7 @@ pub struct Refusal {
 }
 
 impl Refusal {
-    /// The ground's number, from 1 to 9 or 11.
+    /// The ground's number, from 1 to 9.
     pub fn number(self) -> u64 {
         self.ground.number()
     }
@@ -98,7 +95,6 @@ pub fn refusal_text(number: u64) -> &'static str {
         7 => "a meter that does not hold together",
         8 => "a deviation of nought where a ratio or a bar is asked",
         9 => "bad bytes or a bad length in a file",
-        11 => "a channel above 15",
         _ => "no number of this library",
     }
 }
@@ -108,7 +104,7 @@ pub(crate) fn answered(number: u64, place: u64) -> Result<(), Refusal> {
     match Ground::from_number(number) {
         Some(ground) => Err(Refusal { ground, place }),
         None if number == 0 => Ok(()),
-        // The library proves of every entry, for every input, which of 0 to 9 and 11 it gives.
+        // The library proves of every entry, for every input, which of 0 to 9 it gives, and a channel's 11 is told before this.
         None => unreachable!("no entry gives the number {number}"),
     }
 }

@@ -1,14 +1,16 @@
 //! What the wrapper adds to the library: grounds, kinds and types for numbers, and words for a refusal.
 
-use ploegelster::{Ground, Kind, Meter, Noise, Quieter, Record, Refusal, Salvage, Sheet, Totals, Wide, CHANNELS, LARGEST_TOTAL, SHEET_ROOM};
+use ploegelster::{
+    ChannelRefusal, Ground, Kind, Meter, Noise, Quieter, Record, Refusal, Salvage, Sheet, Totals, Wide, CHANNELS, LARGEST_TOTAL, SHEET_ROOM,
+};
 use std::error::Error;
 
 #[test]
 fn every_number_has_its_ground_and_no_other_has_one() {
-    for number in (1..=9).chain([11]) {
+    for number in 1..=9 {
         assert_eq!(Ground::from_number(number).map(Ground::number), Some(number));
     }
-    for number in [0, 10, 12, 255, 257, 267, 1 << 32 | 1, 1 << 32 | 11, u64::MAX] {
+    for number in [0, 10, 11, 255, 257, 1 << 32 | 1, u64::MAX] {
         assert_eq!(Ground::from_number(number), None);
     }
 }
@@ -211,7 +213,7 @@ fn what_two_records_are_refused_for_in_words() {
 }
 
 #[test]
-fn channels_take_turns() -> Result<(), Refusal> {
+fn channels_take_turns() -> Result<(), ChannelRefusal> {
     let mut ring = [0; CHANNELS * 3];
     let mut meters = [Meter::NOUGHTS; CHANNELS];
     for (channel, meter) in meters.iter_mut().enumerate() {
@@ -244,7 +246,7 @@ fn a_channel_above_15_in_words() {
         ploegelster::channel_report(Meter::NOUGHTS, u64::MAX).unwrap_err(),
     ];
     for refusal in refusals {
-        assert_eq!(refusal, Refusal { ground: Ground::BadChannel, place: 0 });
+        assert_eq!((refusal, refusal.number(), refusal.place()), (ChannelRefusal::BadChannel, 11, 0));
         assert_eq!(refusal.to_string(), "refused 11, a channel above 15, at 0");
     }
     assert_eq!(ring, [7; 48]);

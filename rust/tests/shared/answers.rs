@@ -391,9 +391,26 @@ pub fn expected<T: Values>(answer: &Answer<T>) -> Vec<u64> {
     laid_out(answer.as_ref().map_err(|refusal| [refusal.number, refusal.place]))
 }
 
+/// A refusal of the wrapper's: its number and its place.
+pub trait Refused {
+    fn number_and_place(&self) -> [u64; 2];
+}
+
+impl Refused for ploegelster::Refusal {
+    fn number_and_place(&self) -> [u64; 2] {
+        [self.number(), self.place]
+    }
+}
+
+impl Refused for ploegelster::ChannelRefusal {
+    fn number_and_place(&self) -> [u64; 2] {
+        [self.number(), self.place()]
+    }
+}
+
 /// The same of the wrapper.
-pub fn wrapped<T: Values>(answer: &Result<T, ploegelster::Refusal>) -> Vec<u64> {
-    laid_out(answer.as_ref().map_err(|refusal| [refusal.number(), refusal.place]))
+pub fn wrapped<T: Values>(answer: &Result<T, impl Refused>) -> Vec<u64> {
+    laid_out(answer.as_ref().map_err(Refused::number_and_place))
 }
 
 /// The same of a meter over the plain C interface, where a refusal hands it back as it came.

@@ -13,9 +13,8 @@ pub mod random;
 pub mod raw;
 pub mod records;
 
-use answers::{expected, wrapped, Values, Words};
+use answers::{expected, wrapped, Refused, Values, Words};
 use independent::Answer;
-use ploegelster::Refusal;
 
 pub const END: i64 = 1 << 40;
 
@@ -29,7 +28,7 @@ pub struct Tally {
 
 impl Tally {
     /// One case: both have the words of the second implementation's answer.
-    pub fn same<T: Values, U: Values>(&mut self, raw: &impl Words, wrapper: &Result<U, Refusal>, own: &Answer<T>, input: impl Fn() -> String) {
+    pub fn same<T: Values, U: Values>(&mut self, raw: &impl Words, wrapper: &Result<U, impl Refused>, own: &Answer<T>, input: impl Fn() -> String) {
         self.same_raw(&raw.words(), &expected(own), &input);
         self.same_wrapped(wrapper, own, &input);
     }
@@ -42,7 +41,7 @@ impl Tally {
     }
 
     /// The half of a case that is the wrapper's.
-    pub fn same_wrapped<T: Values, U: Values>(&mut self, wrapper: &Result<U, Refusal>, own: &Answer<T>, input: impl Fn() -> String) {
+    pub fn same_wrapped<T: Values, U: Values>(&mut self, wrapper: &Result<U, impl Refused>, own: &Answer<T>, input: impl Fn() -> String) {
         assert_eq!(wrapped(wrapper), expected(own), "wrapper left, second implementation right, for {}", input());
         self.wrapped += 1;
     }

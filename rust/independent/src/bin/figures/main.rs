@@ -1,7 +1,6 @@
 //! Prints every line of the program crates/figures, worked by the second implementation alone. A module here works the lines of the module of the
 //! same name there.
 
-mod bank;
 mod bars;
 mod buffers;
 mod dots;
@@ -9,7 +8,6 @@ mod drawn;
 mod floats;
 mod halves;
 mod print;
-mod quieter;
 mod records;
 mod refusals;
 mod streams;
@@ -20,9 +18,7 @@ fn main() {
     refusals::figures();
     halves::figures();
     sweep::figures();
-    quieter::figures();
     streams::figures();
-    bank::figures();
     floats::figures();
     buffers::figures();
     drawn::figures();
