@@ -96,7 +96,7 @@ pub square_taken_in :
     total ≡ halves (sum n (λ i. square (f i))) → y ≡ f n → next ≡ wide_sum total (halves (square (read y))) → next ≡ halves (sum (n + 1) (λ i. square (f i)))
 square_taken_in f n small below {y = y} total-is y-is next_is =
     let more : sum (n + 1) (λ i. square (f i)) ≡ sum n (λ i. square (f i)) + square (f n) = sum_step n (λ i. square (f i)) in
-    let read_is : read y ≡ f n = read_back y-is (small_fits (f n) (omega arith)) in
+    let read_is : read y ≡ f n = read_back {w = w64} y-is (small_fits (f n) (omega arith)) in
     sum_grows (sum n (λ i. square (f i))) (square (f n)) total-is (ap (λ (t : ℤ). halves (square t)) read_is) next_is (rw more at below)
     ∙ ap halves (sym more)
 
