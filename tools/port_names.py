@@ -26,7 +26,7 @@ APART = {
     "value-at": "value_at_lem",
 }
 # A field of two records, which would hide the definition that its own type names.
-FIELD = (re.compile(r"\b(header|h|w)\.start_fits\b(?!\.)"), r"\1.fits_start"), (re.compile(r"\bstart_fits(?= = | : startFits)"), "fits_start")
+FIELD = (re.compile(r"\b(header|h|w)\.start_fits\b(?!\.)"), r"\1.fits_start"), (re.compile(r"\bstart_fits(?= = (?:not-false|rw) | : startFits)"), "fits_start")
 
 
 def files(ends):

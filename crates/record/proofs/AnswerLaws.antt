@@ -1,5 +1,5 @@
 -- The two cases of a call that fills a lent buffer: refused, with the buffer as it came, and answered, with the output at its front.
-use Rattle.std.proofs.Common.{◌≡◌, ℕ, ◌<◌, ◌≤◌, Bool, true, false, cond, eqb, List, length, get_or, refl, ◌∙◌, arith, ne_eqb}
+use Rattle.std.proofs.Common.{◌≡◌, ℕ, ◌<◌, ◌≤◌, Bool, true, false, cond, eqb, List, [], length, get_or, refl, ◌∙◌, arith, ne_eqb}
 use Rattle.laws.specs.Lists.{written}
 use Rattle.laws.proofs.ListLaws.{written_past}
 use Rattle.record.specs.Refusals.{none, refused}
@@ -19,6 +19,22 @@ module _ {A : Type 0} (count : ℕ) (out buffer : List A) where
       (record { number = 0; place = 0; count = count } ≡ count_answer r count) × (left ≡ buffer_left r out buffer)
   unfolding count_answer buffer_left
   call_answered e w = (rw e, w ∙ rw e)
+
+-- the same of what is returned alone
+module _ (count : ℕ) where
+  pub value_refused : {r : Refusal} {answer : CountAnswer} (n p : ℕ) → 0 < n → r ≡ refused n p → answer ≡ record { number = n; place = p; count = 0 } → answer ≡ count_answer r count
+  value_refused n p h e a = (call_refused {A = ℕ} count [] [] n p h e a).0
+
+  pub value_answered : {r : Refusal} → r ≡ none → record { number = 0; place = 0; count = count } ≡ count_answer r count
+  value_answered e = (call_answered {A = ℕ} count [] [] e refl).0
+
+-- and of what is left in the buffer
+module _ {A : Type 0} (out buffer : List A) where
+  pub left_refused : {r : Refusal} (n p : ℕ) → 0 < n → r ≡ refused n p → buffer ≡ buffer_left r out buffer
+  left_refused n p h e = (call_refused 0 out buffer n p h e refl).1
+
+  pub left_answered : {r : Refusal} {left : List A} → r ≡ none → left ≡ written out buffer → left ≡ buffer_left r out buffer
+  left_answered e w = (call_answered 0 out buffer e w).1
 
 -- ---- entries of the buffer
 

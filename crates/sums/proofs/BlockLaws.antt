@@ -68,7 +68,7 @@ module _ {m : ℕ} {w : ℤ} {gs : List ℤ} (b : Bounded m w gs) where
 
   -- ---- the first window, raised
   pub start_fits : (m * 2 ^ 42 + nat_abs w < 2 ^ 63) × (minus w ≤ m * 2 ^ 42)
-  fits_start = omega (arith, first_within, size_is w)
+  start_fits = omega (arith, first_within, size_is w)
 
   pub start_is : (high : ℕ) → high + minus w ≡ m * 2 ^ 42 + plus w → high ≡ raised_at m w gs 0
   start_is high high_is = rw (window_starts w gs) (omega (arith, raised_is (m * 2 ^ 42) w first_within))

@@ -96,7 +96,7 @@ pub square_taken_in :
     total ≡ halves (sum n (λ i. square (f i))) → y ≡ f n → next ≡ wide_sum total (halves (square (read y))) → next ≡ halves (sum (n + 1) (λ i. square (f i)))
 square_taken_in f n small below {y = y} total-is y-is next_is =
     let more : sum (n + 1) (λ i. square (f i)) ≡ sum n (λ i. square (f i)) + square (f n) = sum_step n (λ i. square (f i)) in
-    let read_is : read y ≡ f n = read_back y-is (small_fits (f n) (omega arith)) in
+    let read_is : read y ≡ f n = read_back {w = w64} y-is (small_fits (f n) (omega arith)) in
     sum_grows (sum n (λ i. square (f i))) (square (f n)) total-is (ap (λ (t : ℤ). halves (square t)) read_is) next_is (rw more at below)
     ∙ ap halves (sym more)
 
@@ -142,8 +142,10 @@ module _ (m : ℕ) (xs : List ℤ) (unrefused : record_refusal modified_demand m
           size_is (difference m xs i),
         )
 
-    pub first_grows : {y : ℤ} → y ≡ difference m xs i → of_z w64 (result w64 (grown m xs i s y)) ≡ of_z w64 (first_so_far m xs (i + 1))
-    first_grows {y} y-is = ap (of_z w64) (result_is w64 (grown m xs i s y) (first_grows_fits y-is) ∙ sym (first_step m xs i))
+    pub first_grows : {y : ℤ} → y ≡ difference m xs i → read (result w64 (grown m xs i s y)) ≡ first_so_far m xs (i + 1)
+    first_grows {y} y-is =
+        read_back {w = w64} (result_is w64 (grown m xs i s y) (first_grows_fits y-is) ∙ sym (first_step m xs i))
+        (small_fits (first_so_far m xs (i + 1)) (omega (arith, record_sound.factor_most, first_within m xs record_sound.bounded (i + 1))))
 
     pub first_grown : i ≡ m → to_z w64 s ≡ window_sum m xs 0
     first_grown whole =
@@ -151,11 +153,10 @@ module _ (m : ℕ) (xs : List ℤ) (unrefused : record_refusal modified_demand m
         ∙ ap (first_so_far m xs) whole
         ∙ first_window_is m xs
 
-  -- what is read of the window's bits
-  pub window_read : (j s : ℕ) → s ≡ of_z w64 (window_sum m xs j) → to_z w64 s ≡ window_sum m xs j
-  window_read j s s-is =
-      machine_is w64 (s ∋ window_sum m xs j)
-      (s-is, small_fits (window_sum m xs j) (omega (arith, window_fits_word m xs record_sound.bounded record_sound.factor_most j)))
+  -- a window that a call gave is read as it is
+  pub window_read : (j : ℕ) {w : ℤ} → w ≡ window_sum m xs j → read w ≡ window_sum m xs j
+  window_read j w-is =
+      read_back {w = w64} w-is (small_fits (window_sum m xs j) (omega (arith, window_fits_word m xs record_sound.bounded record_sound.factor_most j)))
 
   module _ (j : ℕ) {w y : ℤ} (w-is : w ≡ window_sum m xs j) (y-is : y ≡ gain m xs j) where
     pub window_moves_fits : Fit w64 (moved m xs j w y)
