@@ -3,11 +3,11 @@
 
     tests/house.py SYMBOLS [ROOT]
 
-SYMBOLS is a file with the archive's symbols, one a line. Every public function takes every input, promises something and has its theorems. The
-sources, the header, the archive, the Rust declarations and the documents name the same exported functions, with the same orders of refusals, and the
-header gives them the same parameters and answers. Whatever docs/STATEMENTS.md names stands where it says, by the rules that stand there. The header
-has the version of the Rust packages, and no document names a file that is not there. This reads text: whether a theorem is proved is the
-prover's to say. house_test.py tries it."""
+SYMBOLS is a file with the archive's symbols, one a line. Every public function takes every input, promises something and has its theorems. An
+exported function calls one of these, by the same name, and has its contract word for word. The sources, the header, the archive, the Rust
+declarations and the documents name the same exported functions, with the same orders of refusals, and the header gives them the same parameters and
+answers. Whatever docs/STATEMENTS.md names stands where it says, by the rules that stand there. The header has the version of the Rust packages, and no
+document names a file that is not there. This reads text: whether a theorem is proved is the prover's to say. house_test.py tries it."""
 import re
 import sys
 from collections import defaultdict, namedtuple
@@ -24,8 +24,13 @@ PLAIN = {"requires", "ensures", "f64", "&[f64]", "&mut [i64]"}
 # Where a field has one name in the sources and another in C.
 C_FIELDS = {"hi": "high", "lo": "low"}
 C_TYPES = {"uint64_t": "u64", "int64_t": "i64", "uint8_t": "u8", "size_t": "usize", "double": "f64"}
+# The entry that an exported function is, where it has not its name: C cannot take the slice that `quieter` hands back.
+ENTRIES = {"plg_quieter": "which_quieter"}
+# The numbers of refusals, and with them those of two digits.
+DIGIT, DIGITS = "[1-9]", r"[1-9]\d?"
 
-Function = namedtuple("Function", "crate path owner name exported clauses parameters answer")
+# The clauses are the kinds of those of the contract; the contract is its text, and the body what stands in the braces after it.
+Function = namedtuple("Function", "crate path owner name exported clauses parameters answer contract body")
 
 
 class House:
@@ -77,12 +82,13 @@ def closed(text, start):
 
 
 def clauses(text, start):
-    """The clauses of a contract, by their first words, up to the body."""
-    found = []
+    """The clauses of a contract, by their first words, its text, and the body after it."""
+    found, begins = [], start
     while (mark := re.compile(r"\b(requires|ensures)\b|\{").search(text, start)) and mark[1]:
         found.append(mark[1])
         start = closed(text, text.index("{", mark.end()))
-    return found
+    body = text[mark.start() + 1:closed(text, mark.start()) - 1] if mark else ""
+    return found, " ".join(text[begins:start].split()), " ".join(body.split())
 
 
 def owner_at(text, place):
@@ -93,16 +99,19 @@ def owner_at(text, place):
     return None
 
 
-HEAD = r"""(\#\[no_mangle\]\s*)? \bpub\s ((?:[\w"]+\s)*) fn\s (\w+) [^(]* \( ([^)]*) \) (?:\s*->\s* ([^{]*?))? (?=\s*(?:requires|ensures|\{))"""
+HEAD = r"""(\#\[unsafe\(no_mangle\)\]\s*)? \bpub\s ((?:[\w"]+\s)*) fn\s (\w+) [^(]* \( ([^)]*) \) (?:\s*->\s* ([^{]*?))? (?=\s*(?:requires|ensures|\{))"""
 
 
 def functions_in(house, crate, path):
     """The functions of a file that are marked `pub`."""
     text = source(house, path)
-    found = [Function(crate, path, owner_at(text, m.start()), m[3], bool(m[1]), clauses(text, m.end()), m[4], m[5])
-             for m in re.finditer(HEAD, text, re.X) if bool(m[1]) == ("extern" in m[2])]
+    found = []
+    for m in re.finditer(HEAD, text, re.X):
+        if bool(m[1]) == ("extern" in m[2]):
+            kinds, contract, body = clauses(text, m.end())
+            found.append(Function(crate, path, owner_at(text, m.start()), m[3], bool(m[1]), kinds, m[4], m[5], contract, body))
     read = {f.name for f in found}
-    for name in re.findall(r"\bpub\s+(?:[\w\"]+\s+)*fn\s+(\w+)", text) + re.findall(r"no_mangle\][^{]*?\bfn\s+(\w+)", text):
+    for name in re.findall(r"\bpub\s+(?:[\w\"]+\s+)*fn\s+(\w+)", text) + re.findall(r"no_mangle\)?\][^{]*?\bfn\s+(\w+)", text):
         if name not in read:
             house.lack(f"fn {name} of {path} has a head that this test does not read, or one of no_mangle and extern \"C\" without the other")
     for unread in re.findall(r"\bpub use [^;]*;|\bmod \w+\s*\{|\bpub trait \w+", text):
@@ -142,7 +151,7 @@ def told(f):
 
 def check_crates(house):
     """The prover is told of every crate."""
-    listed = re.findall(r"^(\w+):", house.text("crates.txt"), re.M)
+    listed = re.findall(r"^(\w+)(?: [\w=]+)*:", house.text("crates.txt"), re.M)
     for path in house.files("crates/*"):
         if path.split("/")[1] not in listed:
             house.lack(f"{path} is not in crates.txt")
@@ -161,6 +170,46 @@ def check_promises(house):
                 house.lack(f"{told(f)} has no ensures")
 
 
+# ---- exported functions and what they call
+
+
+def called(house, f, functions):
+    """The function that an exported one hands its parameters to, in their order, and does nothing else."""
+    call = re.fullmatch(r"((?:\w+::)+)(\w+)\(([^()]*)\)", f.body)
+    handed = [word.strip() for word in call[3].split(",") if word.strip()] if call else None
+    if handed != re.findall(r"(\w+): ", f.parameters) or call[2] != f.name:
+        house.lack(f"{told(f)} is no call of a function of its own name with its own parameters")
+        return None
+    crate, *modules = call[1].removesuffix("::").split("::")
+    path = f"crates/{crate}/src/{'/'.join(modules or ['lib'])}.rt"
+    found = [g for g in functions if g.path == path and g.name == f.name and not g.owner and not g.exported]
+    if not found:
+        house.lack(f"{told(f)} calls no public function of {path}")
+    return found[0] if found else None
+
+
+def ghost_names(house, path):
+    """Where each name of a file's contracts comes from."""
+    found = {}
+    for module, names in re.findall(r"^ghost use ([^;{]+)\.\{([^}]*)\};", source(house, path), re.M):
+        found |= {name.split(" as ")[-1].strip(): f"{module}.{name.split(' as ')[0].strip()}" for name in names.split(",")}
+    return found
+
+
+def check_call(house, f, functions):
+    """An exported function promises what the one that it calls promises, in the same words, which mean the same; that one is given."""
+    entry = called(house, f, functions)
+    if entry:
+        ours, theirs = ghost_names(house, f.path), ghost_names(house, entry.path)
+        used = {word for word in re.findall(r"[^\s(){}\[\],;.]+", f.contract) if word in ours or word in theirs}
+        if (f.contract, f.parameters.rstrip(", \n"), f.answer) != (entry.contract, entry.parameters.rstrip(", \n"), entry.answer):
+            house.lack(f"{told(f)} has not the contract of {told(entry)}")
+        for word in sorted(used):
+            if ours.get(word) != theirs.get(word):
+                house.lack(f"{told(f)} has {word} from {ours.get(word)}, and {told(entry)} from {theirs.get(word)}")
+    return entry
+
+
 # ---- their theorems
 
 
@@ -168,15 +217,22 @@ def contract_name(house, f, path):
     """What a file of proofs calls the function's own contract."""
     modules = f.path.split("/src/")[1][:-3].split("/")
     parts = ([] if modules == ["lib"] else modules) + ([f.owner] if f.owner else []) + [f.name]
-    named = rf"^use Rattle·{f.crate}(?:·proofs)?\.proofs\.{'[.]'.join(parts)}\.Reads as (\S+)$"
+    named = rf"^use Rattle\.{f.crate}\.proofs\.{'[.]'.join(parts)}\.Reads as (\S+)$"
     found = re.search(named, house.text(path), re.M)
     return found and found[1]
+
+
+def theorem_name(name, this):
+    """A theorem's name over a contract that the file calls THIS, in the words of theorems: in-range, or in_range_lem, is in_range."""
+    return name.replace("THIS", this.replace("-", "_").removesuffix("_lem"))
 
 
 def has_theorem(house, f, path, name, begins):
     """Whether the file has the theorem, which has this name and begins so, over the function's own contract, which both call THIS."""
     this = contract_name(house, f, path)
-    return bool(this and is_proved(house, path) and re.search(f"^pub {name} : {begins}".replace("THIS", this), house.text(path), re.M))
+    if not this or not is_proved(house, path):
+        return False
+    return bool(re.search(f"^pub {theorem_name(name, this)} : {begins}".replace("THIS", this), house.text(path), re.M))
 
 
 def check_theorem(house, f, path, *theorems):
@@ -184,9 +240,9 @@ def check_theorem(house, f, path, *theorems):
     this = contract_name(house, f, path)
     for name, begins in theorems:
         if has_theorem(house, f, path, name, begins):
-            house.seen["theorems"].add(f"{path} {name.replace('THIS', this)}")
+            house.seen["theorems"].add(f"{path} {theorem_name(name, this)}")
             return
-    wanted = " or ".join(name.replace("THIS", this or "NAME") for name, _ in theorems)
+    wanted = " or ".join(theorem_name(name, this or "NAME") for name, _ in theorems)
     house.lack(f"{told(f)} has no theorem {wanted} over its own contract in {path}")
 
 
@@ -196,20 +252,20 @@ def refuses(house, f):
     return {"number", "place"} <= fields and not re.search(r"\bnumber:", f.parameters)
 
 
-def check_theorems(house, f):
+def check_theorems(house, f, is_exported):
     of_this = r".* THIS\.Post\b"
-    check_theorem(house, f, f"crates/{f.crate}/proofs/Unique.antt", (f.name.replace("_", "-") + "-single", "Single" + of_this))
-    if f.exported:
-        # An entry that hands back a slice, which C cannot take, has its C function over the call that says which.
-        own = "THIS-is", rf"THIS\.Post ≡ (?:which-)?{f.name.removeprefix('plg_').replace('_', '-')}\.Post$"
-        check_theorem(house, f, CONDITION1, own, ("THIS-tells", "Always" + of_this))
+    check_theorem(house, f, f"crates/{f.crate}/proofs/Unique.antt", (f.name + "_single", "Single" + of_this))
+    if is_exported:
+        entry = ENTRIES.get(f.name, f.name.removeprefix("plg_"))
+        own = "THIS_is", rf"THIS\.Post ≡ {entry.replace('_', '[-_]')}\.Post$"
+        check_theorem(house, f, CONDITION1, own, ("THIS_tells", "Always" + of_this))
         if has_theorem(house, f, CONDITION1, *own):
             return  # all that is said of the entry's contract is said of this one
-    check_theorem(house, f, CONDITION1, ("THIS-settled", "Settled" + of_this), ("THIS-one-answer", "Single" + of_this))
+    check_theorem(house, f, CONDITION1, ("THIS_settled", "Settled" + of_this), ("THIS_one_answer", "Single" + of_this))
     if "&mut [" in f.parameters:
-        check_theorem(house, f, CONDITION1, ("THIS-past", "Always" + of_this))
+        check_theorem(house, f, CONDITION1, ("THIS_past", "Always" + of_this))
     if refuses(house, f):
-        check_theorem(house, f, GROUNDS, ("THIS-grounds", "Always" + of_this))
+        check_theorem(house, f, GROUNDS, ("THIS_grounds", "Always" + of_this))
 
 
 # ---- exported functions
@@ -240,40 +296,41 @@ def rust_functions(house):
     return set(re.findall(r"\bfn (\w+)", "".join(blocks))), " ".join(paths) or "rust/"
 
 
-def refusal_orders(house, path):
+def refusal_orders(house, path, digit=DIGIT):
     """Each table that says what is refused: the functions of its first column, with the numbers in their order."""
     found = {}
     for header, rows in tables(house.text(path)):
         at = [i for i, cell in enumerate(header) if cell.startswith("refuses")]
         for _, row in rows if at else []:
             for name in re.findall(r"`([^`]+)`", row[0]):
-                found[name] = re.findall(r"(?:^|[,;] |then | or )([1-9]\d?)\b", row[at[0]])
+                found[name] = re.findall(rf"(?:^|[,;] |then | or )({digit})\b", row[at[0]])
     return found
 
 
-def entry_orders(house):
+def entry_orders(house, digit=DIGIT):
     """The same of docs/STATEMENTS.md by the names in C, where a function that refuses otherwise in C has its own row."""
-    found = refusal_orders(house, STATEMENTS)
+    found = refusal_orders(house, STATEMENTS, digit)
     exported = {name: order for name, order in found.items() if name.startswith("plg_")}
     return {"plg_" + name.replace("::", "_").lower(): order for name, order in found.items() if name not in exported} | exported
 
 
-def header_orders(house):
+def header_orders(house, digit=DIGIT):
     """The same of the comments of the header."""
     found, before = {}, []
     for comment, name in re.findall(r"/\*\*((?:(?!\*/).)*)\*/\s*\w+ (plg_\w+)\(", house.text(HEADER), re.S):
         said = re.sub(r"\([^()]*(?:\([^()]*\)[^()]*)*\)|\bnever \d", "", comment.partition("Refuses ")[2])
-        before = found[name] = before if said.startswith("as the") else re.findall(r"\b[1-9]\d?\b", said)
+        before = found[name] = before if said.startswith("as the") else re.findall(rf"\b{digit}\b", said)
     return found
 
 
 def check_orders(house):
-    """What is refused, in which order, is said alike in the rules, the statements and the header."""
-    rules = refusal_orders(house, RULES)
-    for path, orders in ((STATEMENTS, entry_orders(house)), (HEADER, header_orders(house))):
-        for name in sorted(rules.keys() & orders.keys()):
-            if rules[name] != orders[name]:
-                house.lack(f"{name} refuses {', '.join(rules[name])} by {RULES}, and {', '.join(orders[name])} by {path}")
+    """What is refused, in which order, is said alike in the rules, the statements and the header; so it is with the numbers of two digits."""
+    for digit in (DIGIT, DIGITS):
+        rules = refusal_orders(house, RULES, digit)
+        for path, orders in ((STATEMENTS, entry_orders(house, digit)), (HEADER, header_orders(house, digit))):
+            for name in sorted(rules.keys() & orders.keys()):
+                if rules[name] != orders[name]:
+                    house.lack(f"{name} refuses {', '.join(rules[name])} by {RULES}, and {', '.join(orders[name])} by {path}")
 
 
 def compare(house, exported, others, where):
@@ -328,10 +385,10 @@ def c_parameter(structs, text):
 
 def declared_fields(house, path, name):
     """Of a struct that a source declares or uses: the file that declares it, whether it is laid out as C has it, and its fields."""
-    declared = re.search(rf"(#\[repr\(C\)\]\s*)?pub struct {name} \{{([^}}]*)\}}", source(house, path))
+    declared = re.search(rf"((?:#\[[^\]]*\]\s*)*)pub struct {name} \{{([^}}]*)\}}", source(house, path))
     if declared:
-        return path, bool(declared[1]), re.findall(r"pub (\w+): ([^,]+),", declared[2])
-    used = re.search(rf"^use ([\w:]+)::{name};", source(house, path), re.M)
+        return path, "#[repr(C)]" in declared[1], re.findall(r"pub (\w+): ([^,]+),", declared[2])
+    used = re.search(rf"^use ([\w:]+)::(?:\{{[^}}]*\b)?{name}\b(?:[^}}]*\}})?;", source(house, path), re.M)
     if not used:
         return path, True, []
     crate, *modules = used[1].split("::")
@@ -559,8 +616,9 @@ def check_statements(house, functions):
     for line, name in reader.mentioned:
         if name not in reader.placed:
             reader.lack(line, f"`{name}` has no place, here or elsewhere in the document")
+    in_c = {f.name for f in functions if f.exported}
     for f in functions:
-        if not f.exported and told(f) not in reader.listed:
+        if f.name not in in_c and told(f) not in reader.listed:
             house.lack(f"{told(f)} stands in no table of functions of {STATEMENTS}")
     check_edits(house, reader.edits)
 
@@ -603,7 +661,7 @@ def check_documents(house):
 
 def check_line(house, path, line, text):
     for word in re.findall(r"`([^`\s]+)`", text):
-        if (re.search(r"/.*\.\w+$", word) or word.startswith("crates/")) and not word.startswith("target/"):
+        if (re.search(r"/.*\.\w+$", word) or word.startswith("crates/")) and not re.search(r"^target/|/out/", word):
             house.seen["paths"].add(word)
             if not house.has(word):
                 house.lack(f"{path}:{line}: {word} is not there")
@@ -618,9 +676,11 @@ def looked_over(root, symbols):
     check_crates(house)
     check_promises(house)
     functions = public_functions(house)
+    entries = [check_call(house, f, functions) for f in functions if f.exported]
     for f in functions:
         check_contract(house, f)
-        check_theorems(house, f)
+        if not f.exported:
+            check_theorems(house, f, f in entries)
     check_exports(house, functions)
     check_types(house, functions)
     check_statements(house, functions)

@@ -12,7 +12,7 @@ import house
 
 ROOT = Path(__file__).resolve().parent.parent
 SUMS, RECORD, METER = "crates/sums/src/lib.rt", "crates/record/src/lib.rt", "crates/meter/src/lib.rt"
-PUBLISHED, UNIQUE = "crates/ploegelster/src/published.rt", "crates/sums/proofs/Unique.antt"
+PUBLISHED, UNIQUE = "crates/ploegelster_c/src/published.rt", "crates/sums/proofs/Unique.antt"
 CONDITION1, CONDITION2 = house.CONDITION1, "crates/acceptance/proofs/Condition2.antt"
 GROUNDS = house.GROUNDS
 HEADER, RULES, STATEMENTS = house.HEADER, house.RULES, house.STATEMENTS
@@ -24,51 +24,63 @@ CARGO = next(path for path in house.House(ROOT, []).files("rust/**/Cargo.toml") 
 # Then what must be said.
 CASES = [
     # functions
-    (SUMS, "m: u64) -> SumAnswer\n", "m: u64) -> SumAnswer\n    requires { ⌜ 1 ≤ m ⌝ }\n",
+    (SUMS, "m: u64) -> SumAnswer\n", "m: u64) -> SumAnswer\n    requires { 1 ≤ m }\n",
      "pub fn allan_sum of crates/sums/src/lib.rt has a requires"),
-    (RECORD, "ensures { λ r. ⌜ r ≡ inRange x ⌝ }", "", "pub fn in_range of crates/record/src/lib.rt has no ensures"),
-    (RECORD, "ensures { λ r. ⌜ r ≡ inRange x ⌝ }", "// ensures { λ r. ⌜ r ≡ inRange x ⌝ }",
+    (RECORD, "ensures { result ≡ in_range x }", "", "pub fn in_range of crates/record/src/lib.rt has no ensures"),
+    (RECORD, "ensures { result ≡ in_range x }", "// ensures { result ≡ in_range x }",
      "pub fn in_range of crates/record/src/lib.rt has no ensures"),
-    (METER, "ensures { λ r. ⌜ r ≡ reportAnswer self ⌝ }", "", "pub fn Meter::report of crates/meter/src/lib.rt has no ensures"),
+    (METER, "ensures { result ≡ report_answer self }", "", "pub fn Meter::report of crates/meter/src/lib.rt has no ensures"),
     (METER, "impl Meter {", "impl Meter {\n    pub fn spare(self) {}\n",
-     "pub fn Meter::spare of crates/meter/src/lib.rt has no theorem spare-single"),
+     "pub fn Meter::spare of crates/meter/src/lib.rt has no theorem spare_single"),
     ("crates/plot/src/dots.rt", "fn dot_of(", "pub fn dot_of(", "pub fn dot_of of crates/plot/src/dots.rt has a requires"),
     ("crates/phr/src/header.rt", "pub(crate) fn word(", "pub fn word(", None),
     ("crates/printed/src/print.rt", "pub(crate) fn number(", "pub fn number(", "pub fn number of crates/printed/src/print.rt has no ensures"),
     (SUMS, "mod totals;", "mod totals;\npub use totals::slid;", "`pub use totals::slid;` of crates/sums/src/lib.rt hides"),
-    (PUBLISHED, '#[no_mangle]\npub extern "C" fn plg_time_fraction', 'pub extern "C" fn plg_time_fraction',
-     "fn plg_time_fraction of crates/ploegelster/src/published.rt has a head"),
-    (PUBLISHED, '#[no_mangle]\npub extern "C" fn plg_time_fraction', '#[no_mangle]\nextern "C" fn plg_time_fraction',
-     "fn plg_time_fraction of crates/ploegelster/src/published.rt has a head"),
+    (PUBLISHED, '#[unsafe(no_mangle)]\npub extern "C" fn plg_time_fraction', 'pub extern "C" fn plg_time_fraction',
+     "fn plg_time_fraction of crates/ploegelster_c/src/published.rt has a head"),
+    (PUBLISHED, '#[unsafe(no_mangle)]\npub extern "C" fn plg_time_fraction', '#[unsafe(no_mangle)]\nextern "C" fn plg_time_fraction',
+     "fn plg_time_fraction of crates/ploegelster_c/src/published.rt has a head"),
     (SUMS, "pub fn allan_sum(samples: &[i64],", "pub fn allan_sum(pair: (u64, u64), samples: &[i64],",
      "fn allan_sum of crates/sums/src/lib.rt has a head"),
     ("crates.txt", "meter:", "# meter:", "crates/meter is not in crates.txt"),
     # their theorems
-    ("crates/sums/proofs/Lib.antt", "pub mod Unique", "", "pub fn allan_sum of crates/sums/src/lib.rt has no theorem allan-sum-single"),
-    (UNIQUE, "pub allan-sum-single :", "pub allan-sum-one :", "pub fn allan_sum of crates/sums/src/lib.rt has no theorem allan-sum-single"),
-    (UNIQUE, "pub allan-sum-single :", "-- pub allan-sum-single :", "pub fn allan_sum of crates/sums/src/lib.rt has no theorem allan-sum-single"),
+    ("crates/sums/proofs/Lib.antt", "pub mod Unique", "", "pub fn allan_sum of crates/sums/src/lib.rt has no theorem allan_sum_single"),
+    (UNIQUE, "pub allan_sum_single :", "pub allan_sum_one :", "pub fn allan_sum of crates/sums/src/lib.rt has no theorem allan_sum_single"),
+    (UNIQUE, "pub allan_sum_single :", "-- pub allan_sum_single :", "pub fn allan_sum of crates/sums/src/lib.rt has no theorem allan_sum_single"),
     (UNIQUE, "allan-sum-kinds.r allan-sum.Post", "allan-sum-kinds.r modified-sum.Post",
-     "pub fn allan_sum of crates/sums/src/lib.rt has no theorem allan-sum-single"),
-    (CONDITION1, "pub allan-sum-settled :", "pub allan-sum-calm :", "pub fn allan_sum of crates/sums/src/lib.rt has no theorem allan-sum-settled or"),
-    (CONDITION1, "pub wide-sum-one-answer :", "pub wide-sum-answer :", "pub fn sum of crates/wide/src/lib.rt has no theorem wide-sum-settled or"),
-    (CONDITION1, "pub meter-start-settled :", "pub start-settled :",
-     "pub fn Meter::start of crates/meter/src/lib.rt has no theorem meter-start-settled or"),
-    (CONDITION1, "pub remove-drift-past :", "pub remove-drift-beyond :",
-     "pub fn remove_drift of crates/drift/src/lib.rt has no theorem remove-drift-past"),
-    (GROUNDS, "pub allan-sum-grounds :", "pub allan-sum-reasons :", "pub fn allan_sum of crates/sums/src/lib.rt has no theorem allan-sum-grounds"),
-    (GROUNDS, "pub size-refusal-grounds :", "pub size-grounds :",
-     "pub fn size_refusal of crates/record/src/lib.rt has no theorem size-refusal-grounds"),
+     "pub fn allan_sum of crates/sums/src/lib.rt has no theorem allan_sum_single"),
+    (CONDITION1, "pub allan_sum_settled :", "pub allan_sum_calm :", "pub fn allan_sum of crates/sums/src/lib.rt has no theorem allan_sum_settled or"),
+    (CONDITION1, "pub wide_sum_one_answer :", "pub wide_sum_answer :", "pub fn sum of crates/wide/src/lib.rt has no theorem wide_sum_settled or"),
+    (CONDITION1, "pub meter_start_settled :", "pub start_settled :",
+     "pub fn Meter::start of crates/meter/src/lib.rt has no theorem meter_start_settled or"),
+    (CONDITION1, "pub remove_drift_past :", "pub remove_drift_beyond :",
+     "pub fn remove_drift of crates/drift/src/lib.rt has no theorem remove_drift_past"),
+    (GROUNDS, "pub allan_sum_grounds :", "pub allan_sum_reasons :", "pub fn allan_sum of crates/sums/src/lib.rt has no theorem allan_sum_grounds"),
+    (GROUNDS, "pub size_refusal_grounds :", "pub size_grounds :",
+     "pub fn size_refusal of crates/record/src/lib.rt has no theorem size_refusal_grounds"),
     (GROUNDS, "plg-bars-kinds.r plg-bars.Post", "plg-bars-kinds.r bars.Post",
-     "pub fn plg_bars of crates/ploegelster/src/drawing.rt has no theorem plg-bars-grounds"),
-    (CONDITION1, "pub plg-bars-settled :", "pub plg-bars-calm :",
-     "pub fn plg_bars of crates/ploegelster/src/drawing.rt has no theorem plg-bars-settled or"),
-    (CONDITION1, "pub plg-allan-sum-is :", "pub plg-allan-sum-was :",
-     "pub fn plg_allan_sum of crates/ploegelster/src/published.rt has no theorem plg-allan-sum-is or"),
+     "pub fn plg_bars of crates/ploegelster/src/drawing.rt has no theorem plg_bars_grounds"),
+    (CONDITION1, "pub plg_bars_settled :", "pub plg_bars_calm :",
+     "pub fn plg_bars of crates/ploegelster/src/drawing.rt has no theorem plg_bars_settled or"),
+    (CONDITION1, "pub plg_allan_sum_is :", "pub plg_allan_sum_was :",
+     "pub fn plg_allan_sum of crates/ploegelster/src/published.rt has no theorem plg_allan_sum_is or"),
     (CONDITION1, "≡ allan-sum.Post", "≡ plg-allan-sum.Post",
-     "pub fn plg_allan_sum of crates/ploegelster/src/published.rt has no theorem plg-allan-sum-is or"),
-    (CONDITION1, "pub plg-bars-tells :", "pub plg-bars-told :",
-     "pub fn plg_bars of crates/ploegelster/src/drawing.rt has no theorem plg-bars-is or plg-bars-tells"),
+     "pub fn plg_allan_sum of crates/ploegelster/src/published.rt has no theorem plg_allan_sum_is or"),
+    (CONDITION1, "pub plg_bars_tells :", "pub plg_bars_told :",
+     "pub fn plg_bars of crates/ploegelster/src/drawing.rt has no theorem plg_bars_is or plg_bars_tells"),
     # exported functions
+    (PUBLISHED, "ensures { result ≡ time_fraction_answer (value sum) m count }", "ensures { result ≡ allan_fraction_answer (value sum) m count }",
+     "pub fn plg_time_fraction of crates/ploegelster_c/src/published.rt has not the contract of pub fn plg_time_fraction of crates/ploegelster/src/"),
+    (PUBLISHED, "ensures { result ≡ time_fraction_answer (value sum) m count }", "",
+     "pub fn plg_time_fraction of crates/ploegelster_c/src/published.rt has no ensures"),
+    (PUBLISHED, "::plg_time_fraction(sum, m, count)", "::plg_allan_fraction(sum, m, count)",
+     "pub fn plg_time_fraction of crates/ploegelster_c/src/published.rt is no call of a function of its own name"),
+    (PUBLISHED, "::plg_time_fraction(sum, m, count)", "::plg_time_fraction(sum, count, m)",
+     "pub fn plg_time_fraction of crates/ploegelster_c/src/published.rt is no call of a function of its own name"),
+    (PUBLISHED, "ghost use Rattle.wide.specs.Wide.{value}", "ghost use Rattle.wide.specs.Halves.{value}",
+     "pub fn plg_time_fraction of crates/ploegelster_c/src/published.rt has value from Rattle.wide.specs.Halves.value, and"),
+    ("crates/ploegelster/src/published.rt", "pub fn plg_time_fraction", "pub(crate) fn plg_time_fraction",
+     "pub fn plg_time_fraction of crates/ploegelster_c/src/published.rt calls no public function of crates/ploegelster/src/published.rt"),
     (HEADER, "plg_drawn_answer plg_drawn_number(uint64_t r);", "", "plg_drawn_number is exported and not declared in include/ploegelster.h"),
     (HEADER, "plg_drawn_answer plg_drawn_number(", "plg_drawn_answer plg_spare(uint64_t r);\nplg_drawn_answer plg_drawn_number(",
      "plg_spare is declared in include/ploegelster.h and not exported"),
@@ -84,6 +96,8 @@ CASES = [
      "plg_drift_figure refuses 1, 2, 3 by docs/RULES.md, and 2, 1, 3 by docs/STATEMENTS.md"),
     (HEADER, "Refuses 5, 6 (ring below 3m)", "Refuses 6 (ring below 3m), 5",
      "plg_meter_start refuses 5, 6 by docs/RULES.md, and 6, 5 by include/ploegelster.h"),
+    (RULES, "| `plg_channel_gap` (K13) | 11; 7", "| `plg_channel_gap` (K13) | 12; 7",
+     "plg_channel_gap refuses 12, 7 by docs/RULES.md, and 11, 7 by docs/STATEMENTS.md"),
     # what they take and answer
     (HEADER, "plg_noise_type(uint64_t r1, uint64_t r2)", "plg_noise_type(uint64_t r2, uint64_t r1)",
      "plg_noise_type of include/ploegelster.h does not take"),
@@ -92,11 +106,12 @@ CASES = [
     (HEADER, "plg_part allan, modified;", "plg_part allan;", "plg_meter_report of include/ploegelster.h does not have the answer"),
     (HEADER, "plg_wide a, b;", "plg_wide b, a;", "plg_meter_report of include/ploegelster.h does not take"),
     (METER, "    pub window: i64,", "    pub window: u64,", "plg_meter_report of include/ploegelster.h does not take"),
-    (METER, "#[repr(C)]\npub struct Meter {", "pub struct Meter {", "struct Meter of crates/meter/src/lib.rt goes to C and has no repr(C)"),
+    (METER, "#[repr(C)]\n#[derive(Clone, Copy)]\npub struct Meter {", "#[derive(Clone, Copy)]\npub struct Meter {",
+     "struct Meter of crates/meter/src/lib.rt goes to C and has no repr(C)"),
     # what docs/STATEMENTS.md names
-    (CONDITION2, "pub bars-published :", "pub bars-printed :", "`bars-published` does not stand in crates/acceptance/proofs/Condition2.antt"),
-    ("crates/acceptance/proofs/Lib.antt", "pub mod Condition2\n", "", "`bars-published` does not stand in crates/acceptance/proofs/Condition2.antt"),
-    ("crates/record/specs/Refusals.antt", "pub inRange :", "pub isInRange :", "`inRange` does not stand in crates/record/specs/Refusals.antt"),
+    (CONDITION2, "pub bars_published :", "pub bars_printed :", "`bars_published` does not stand in crates/acceptance/proofs/Condition2.antt"),
+    ("crates/acceptance/proofs/Lib.antt", "pub mod Condition2\n", "", "`bars_published` does not stand in crates/acceptance/proofs/Condition2.antt"),
+    ("crates/record/specs/Refusals.antt", "pub in_range :", "pub is_in_range :", "`in_range` does not stand in crates/record/specs/Refusals.antt"),
     ("crates/plot/specs/Drawn.antt", "pub record GreatestDouble ", "pub record LargestDouble ",
      "`GreatestDouble` does not stand in crates/plot/specs/Drawn.antt"),
     ("crates/noise/src/lib.rt", "const KAPPA:", "const KAPPAS:", "`KAPPA` does not stand in crates/noise/src/lib.rt"),
@@ -104,8 +119,8 @@ CASES = [
     ("crates/plot/src/dots.rt", "    TooFew,\n}", "}", "`enum Dot { Drawn(f64), Nought, TooFew }` does not stand in crates/plot/src/dots.rt"),
     (STATEMENTS, "(sums `PublishedLaws`)", "(sums `PrintedLaws`)", "crates/sums/proofs/PrintedLaws.antt is not there"),
     (STATEMENTS, "| `Condition3.antt` |", "| `Condition4.antt` |", "crates/acceptance/proofs/Condition4.antt is not there"),
-    (STATEMENTS, "There is one exception: the slice", "There are no exceptions but `spare-law`.",
-     "`spare-law` has no place, here or elsewhere in the document"),
+    (STATEMENTS, "There are no exceptions.", "There are no exceptions but `spare_law`.",
+     "`spare_law` has no place, here or elsewhere in the document"),
     (STATEMENTS, "| `root` |", "| `roots` |", "`roots` is no public function of wide"),
     (STATEMENTS, "| `root` |", "| the root |", "pub fn root of crates/wide/src/lib.rt stands in no table of functions of docs/STATEMENTS.md"),
     (STATEMENTS, "`gap_keeps_the_window` (meter)", "`gap_keeps_the_window` (sums)", "`gap_keeps_the_window` does not stand in crates/sums/must-fail/"),
@@ -119,6 +134,7 @@ CASES = [
     (CARGO, '\nversion = "', '\nversion = "9', f"{CARGO} has version 9"),
     (HEADER, "#define PLG_VERSION_MINOR", "#define PLG_MINOR", "include/ploegelster.h does not define PLG_VERSION_MAJOR"),
     ("README.md", "# Ploegelster\n", "# Ploegelster\n\nSee `examples/quartz.c`.\n", "README.md:3: examples/quartz.c is not there"),
+    ("README.md", "# Ploegelster\n", "# Ploegelster\n\nSee `crates/inspect/out/inspect`, which a check leaves.\n", None),
     ("README.md", "# Ploegelster\n", "# Ploegelster\n\nSee `/usr/include/stdio.h`.\n", "README.md:3: /usr/include/stdio.h is not there"),
     ("CONTRIBUTING.md", "## Versions\n", "## Versions\n\nSee `rust/src/quartz.rs`.\n", "rust/src/quartz.rs is not there"),
 ]
@@ -126,7 +142,7 @@ CASES = [
 
 def copy(folder):
     """The repository's files, without what builds have made."""
-    return shutil.copytree(ROOT, folder, ignore=shutil.ignore_patterns(".git", "target", "__pycache__"))
+    return shutil.copytree(ROOT, folder, ignore=shutil.ignore_patterns(".git", "target", "out", "__pycache__"))
 
 
 def change(root, path, old, new):
