@@ -21,8 +21,8 @@
 //! # Ok::<(), Refusal>(())
 //! ```
 //!
-//! Every input is answered, or refused by a [`Ground`] and a place. A function lists what it refuses by number, in the order in which the tests are
-//! made; the first that fails is the answer. After a refusal every lent buffer is as it was.
+//! Every input is answered, or refused by a [`Ground`] and a place, a call on a channel by a [`ChannelRefusal`]. A function lists what it refuses by
+//! number, in the order in which the tests are made; the first that fails is the answer. After a refusal every lent buffer is as it was.
 //!
 //! Each function is the entry of the same name in include/ploegelster.h, with Rust's types for C's; [`boundary`] is the plain C interface under it.
 //! The library's promises are proved of its own code. What this crate adds is plain Rust, and tested against a second implementation.
