@@ -2,11 +2,14 @@
 use mathlib.Core.Path.{sym, ap, ◌∙◌}
 use lib.ListN.{length}
 use Rattle.readings.proofs.RefusalLaws.{samples_length, samples_room, samples_taken, unrefused_room, unrefused_readings, unrefused_none}
-use Rattle.readings.proofs.AnswerLaws.{as_part, call_refused, call_answered}
+use Rattle.readings.proofs.AnswerLaws.{as_part, value_refused, left_refused, call_answered}
 use Rattle.readings.proofs.float_sums.Goals as goal
 
 pub returns-then-refusal-ne0 : goal.returns-then-refusal-ne0
-returns-then-refusal-ne0 c = record { value = (call_refused _ _ _ _ c.float_refusal-refusal.ensures c.if-refusal-ne0.true c.refused.ensures).0; buffer_after = (call_refused _ _ _ _ c.float_refusal-refusal.ensures c.if-refusal-ne0.true c.refused.ensures).1 }
+returns-then-refusal-ne0 c = record {
+  value = value_refused _ _ _ c.float_refusal-refusal.ensures c.if-refusal-ne0.true c.refused.ensures;
+  buffer_after = left_refused _ _ _ _ c.float_refusal-refusal.ensures c.if-refusal-ne0.true;
+}
 
 pub write_samples-changed-requires : goal.write_samples-changed-requires
 write_samples-changed-requires c =
@@ -24,12 +27,10 @@ slice_bounds-samples-end-2 c =
 
 pub returns : goal.returns
 returns c =
-    record { value = (call_answered _ _ _ _ c.float_refusal-refusal.ensures c.if-refusal-ne0.false (samples_taken c.args.readings.now _ c.write_samples-changed.ensures.buffer_after)
-    (c.part_of.ensures ∙ ap as_part c.allan_sum.ensures)
-    (c.part_of-2.ensures ∙ ap as_part c.modified_sum.ensures)
-    c.write_samples-changed.ensures.value
-    c.write_samples-changed.ensures.buffer_after).0; buffer_after = (call_answered _ _ _ _ c.float_refusal-refusal.ensures c.if-refusal-ne0.false (samples_taken c.args.readings.now _ c.write_samples-changed.ensures.buffer_after)
-    (c.part_of.ensures ∙ ap as_part c.allan_sum.ensures)
-    (c.part_of-2.ensures ∙ ap as_part c.modified_sum.ensures)
-    c.write_samples-changed.ensures.value
-    c.write_samples-changed.ensures.buffer_after).1 }
+    let taken = samples_taken c.args.readings.now c.args.buffer.now c.write_samples-changed.ensures.buffer_after in
+    let allan = c.part_of.ensures ∙ ap as_part c.allan_sum.ensures in
+    let modified = c.part_of-2.ensures ∙ ap as_part c.modified_sum.ensures in
+    let told =
+    call_answered c.args.m c.args.readings.now (length c.args.buffer.now) c.args.buffer.now c.float_refusal-refusal.ensures c.if-refusal-ne0.false taken allan modified
+    c.write_samples-changed.ensures.value c.write_samples-changed.ensures.buffer_after in
+    record { value = told.0; buffer_after = told.1 }

@@ -2,6 +2,7 @@
 use borrow.Author.Tests.{le-leb, lt-leb}
 use mathlib.Core.Path.{refl, sym, ◌∙◌}
 use native.Mathlib.Omega.{arith}
+use mir.Syntax.{w64}
 use Rattle.laws.proofs.Machine.{read_back}
 use Rattle.laws.proofs.Tests.{choice_true, choice_false}
 use Rattle.meter.proofs.slots.old.Goals as goal
