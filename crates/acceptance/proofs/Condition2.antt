@@ -171,8 +171,8 @@ quieter_by_fractions κs args z w is answered p1 q1 p2 q2 one two =
 -- The record itself is handed back, the first or the second of the two that were lent, as which_quieter says; where it refuses, the empty part of the first.
 pub quieter_handed_back : Always 1 quieter-kinds.ps quieter-kinds.r quieter.Post
     (λ κs args z w. let first = args.0 in let second = args.1.0 in let m = args.1.1.0 in (y : QuieterAnswer) → Compares first.now second.now m y →
-    (y.which ≡ 1 → z ≡ first) × (y.which ≡ 2 → z ≡ second) × (Refused y.number → (z.ref_ptr ≡ first.ptr) × (z.now ≡ [])))
-quieter_handed_back κs args z w is y call = rw is (handed_as_told _ _ _ _ y call)
+    (y.which ≡ 1 → z ≡ first) × (y.which ≡ 2 → z ≡ second) × (Refused y.number → (z.ref_ptr ≡ first.ref_ptr) × (z.now ≡ [])))
+quieter_handed_back κs args z w is y call = rw is (handed_as_told _ _ _ y call)
 
 -- ---- fractions and deviations, by the sum, the factor m and the count
 

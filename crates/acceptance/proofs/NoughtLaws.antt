@@ -5,7 +5,7 @@ use mathlib.Core.List.{List}
 use Prim.Native.Nat.{ℕ, zero, suc, ◌≤◌, ◌<◌, ◌+◌, ◌-◌, ◌*◌, ◌%◌}
 use native.Mathlib.Omega.{arith}
 use base.Fml.{GName}
-use denote.Ref.{MutBor}
+use denote.Ref.{Bor}
 use lib.Dec.{leb, eqb}
 use lib.Ieee.{Float}
 use lib.IntN.{ℤ, pos, negsuc}
@@ -225,14 +225,14 @@ pub which_nought : (m : ℕ) (xs ys : List ℤ) → Refused (quieter_answer m xs
 unfolding quieter_answer
 which_nought m xs ys some = rw (by_refusal (quieter_refusal m xs ys) (λ nothing. rw nothing) some) refl
 
-pub one_is_handed : (m : ℕ) (first second : MutBor (List ℤ)) (name : GName) → OneOf first second (quieter_record m first second name)
+pub one_is_handed : (m : ℕ) (first second : Bor (List ℤ)) → OneOf first second (quieter_record m first second)
 unfolding quieter_record empty_part
-one_is_handed m first second name = by_which (eqb which 1) (eqb which 2)
+one_is_handed m first second = by_which (eqb which 1) (eqb which 2)
   where
     which : ℕ
     which = (quieter_answer m first.now second.now).which
 
-    by_which : (s t : Bool) → OneOf first second (cond s first (cond t second (empty_part first name)))
+    by_which : (s t : Bool) → OneOf first second (cond s first (cond t second (empty_part first)))
     by_which true t = the_first
     by_which false true = the_second
     by_which false false = empty refl refl

@@ -8,7 +8,7 @@ use native.Mathlib.Nat.{dvd-zero, mul-le-mul_left, mul-pos, le_of_mul-le-mul_lef
 use native.Mathlib.Omega.{arith}
 use base.Fml.{GName}
 use borrow.Author.Tests.{eqb-false, le-leb, lt-leb}
-use denote.Ref.{MutBor}
+use denote.Ref.{Bor}
 use lib.Dec.{leb, eqb}
 use lib.IntN.{ℤ}
 use lib.ListN.{length}
@@ -121,15 +121,15 @@ by_fractions m xs ys {which} {p1} {q1} {p2} {q2} some some-too quieter one two =
 
 -- ---- the record itself
 
-pub handed_as_told : (m : ℕ) (first second : MutBor (List ℤ)) (name : GName) (y : QuieterAnswer) → Compares first.now second.now m y →
-    let z : MutBor (List ℤ) = quieter_record m first second name in
+pub handed_as_told : (m : ℕ) (first second : Bor (List ℤ)) (y : QuieterAnswer) → Compares first.now second.now m y →
+    let z : Bor (List ℤ) = quieter_record m first second in
     (y.which ≡ 1 → z ≡ first) × (y.which ≡ 2 → z ≡ second) × (Refused y.number → (z.ref_ptr ≡ first.ref_ptr) × (z.now ≡ []))
 unfolding empty_part
-handed_as_told m first second name y (Calls.by_contract κs place other name' another told) = (
-  λ is. sym (first_handed m first second told name is),
-  λ is. sym (second_handed m first second told name is),
+handed_as_told m first second y (Calls.by_contract κs place other name' another told) = (
+  λ is. sym (first_handed m first second told is),
+  λ is. sym (second_handed m first second told is),
   λ refused.
       let nought : y.which ≡ 0 = ap (λ (z : QuieterAnswer). z.which) told ∙ which_nought m first.now second.now (rw told at refused) in
-      let empty = none_handed m first second told name (λ one. omega arith) (λ two. omega arith) in
-      (ap (λ (z : MutBor (List ℤ)). z.ref_ptr) (sym empty), ap (λ (z : MutBor (List ℤ)). z.now) (sym empty)),
+      let empty = none_handed m first second told (λ one. omega arith) (λ two. omega arith) in
+      (ap (λ (z : Bor (List ℤ)). z.ref_ptr) (sym empty), ap (λ (z : Bor (List ℤ)). z.now) (sym empty)),
 )

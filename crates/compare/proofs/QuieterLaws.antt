@@ -7,7 +7,7 @@ use native.Mathlib.Nat.{mul-le-mul, mul-le-mul_left, mul-le-mul_right, mul-pos, 
 use native.Mathlib.Omega.{arith}
 use borrow.Author.Tests.{eq-eqb, ne_eqb, eqb-true, le-leb, leb-true}
 use base.Fml.{GName}
-use denote.Ref.{Bor, MutBor}
+use denote.Ref.{Bor}
 use lib.Dec.{leb, eqb}
 use lib.IntN.{ℤ}
 use lib.ListN.{length}
@@ -23,7 +23,7 @@ use Rattle.sums.specs.Answers.{allan_demand, allan_sum_answer, sum_answer}
 use Rattle.sums.specs.declared.SumAnswer.{SumAnswer}
 use Rattle.sums.proofs.AnswerLaws.{no_sum, given_sum, allan_sum_refused, allan_sum_given}
 use Rattle.sums.proofs.PublishedLaws.{allan_within}
-use Rattle.compare.specs.Quieter.{quieter_refusal, not_above, quieter_answer, seen, empty_part, quieter_record}
+use Rattle.compare.specs.Quieter.{quieter_refusal, not_above, quieter_answer, empty_part, quieter_record}
 use Rattle.compare.specs.declared.QuieterAnswer.{QuieterAnswer}
 
 -- ---- products of a sum and a count
@@ -160,27 +160,14 @@ module _ (m : ℕ) (first second : Bor (List ℤ)) {answer : QuieterAnswer} (tol
   same_which : (quieter_answer m first.now second.now).which ≡ answer.which
   same_which = ap (λ (z : QuieterAnswer). z.which) (sym told)
 
-  pub first_handed : (name : GName) → answer.which ≡ 1 → first ≡ quieter_record m first second name
+  pub first_handed : answer.which ≡ 1 → first ≡ quieter_record m first second
   unfolding quieter_record
-  first_handed name is = sym (choice_true _ _ (eq-eqb _ 1 (same_which ∙ is)))
+  first_handed is = sym (choice_true _ _ (eq-eqb _ 1 (same_which ∙ is)))
 
-  pub second_handed : (name : GName) → answer.which ≡ 2 → second ≡ quieter_record m first second name
+  pub second_handed : answer.which ≡ 2 → second ≡ quieter_record m first second
   unfolding quieter_record
-  second_handed name is = rw (same_which, is) refl
+  second_handed is = rw (same_which, is) refl
 
-  pub none_handed : (name : GName) → (answer.which ≡ 1 → ⊥) → (answer.which ≡ 2 → ⊥) → empty_part first name ≡ quieter_record m first second name
+  pub none_handed : (answer.which ≡ 1 → ⊥) → (answer.which ≡ 2 → ⊥) → empty_part first ≡ quieter_record m first second
   unfolding quieter_record
-  none_handed name not_first not-second = rw (same_which, ne_eqb _ 1 not_first, ne_eqb _ 2 not-second) refl
-
--- what a program sees of it is the same whatever ghost name the empty part has
-pub handed_seen : (m : ℕ) (first second : MutBor (List ℤ)) (name other : GName) → seen (quieter_record m first second name) ≡ seen (quieter_record m first second other)
-unfolding quieter_record empty_part
-handed_seen m first second name other = by_which (eqb which 1) (eqb which 2)
-  where
-    which : ℕ
-    which = (quieter_answer m first.now second.now).which
-
-    by_which : (s t : Bool) → seen (cond s first (cond t second (empty_part first name))) ≡ seen (cond s first (cond t second (empty_part first other)))
-    by_which true t = refl
-    by_which false true = refl
-    by_which false false = refl
+  none_handed not_first not-second = rw (same_which, ne_eqb _ 1 not_first, ne_eqb _ 2 not-second) refl

@@ -1,6 +1,6 @@
 -- The quieter of two records at factor m: the one with the smaller Allan variance, on equality the first.
 use Rattle.std.specs.Prelude.{Bool, cond, List, [], ℕ, ◌*◌, leb, eqb, ℤ}
-use Rattle.std.specs.Borrow.{GName, Bor, MutBor}
+use Rattle.std.specs.Borrow.{Bor}
 use Rattle.record.specs.Refusals.{record_refusal, ◌then◌}
 use Rattle.record.specs.declared.Refusal.{Refusal}
 use Rattle.sums.specs.Published.{allan_sum, allan_count, allan_denominator}
@@ -23,16 +23,12 @@ quieter_answer m first second =
     cond (eqb r.number 0) (record { number = 0; place = 0; which = cond (not_above m first second) 1 2 })
     (record { number = r.number; place = r.place; which = 0 })
 
--- what a program sees of a slice: where it lies and what it holds. The ghost name by which a proof knows it is no part of that
-abbrev pub seen : Bor (List ℤ) → (ℕ × ℕ) × List ℤ
-seen x = (x.ref_ptr, x.now)
-
--- the empty part of a slice: it lies where the slice begins and holds nothing, and has a ghost name of its own
-unfoldable pub empty_part : MutBor (List ℤ) → GName → MutBor (List ℤ)
-empty_part x name = record { ref_ptr = x.ptr; ghost_name = name; now = [] }
+-- the empty part of a slice: it lies where the slice begins and holds nothing
+unfoldable pub empty_part : Bor (List ℤ) → Bor (List ℤ)
+empty_part x = record { ref_ptr = x.ref_ptr; now = [] }
 
 -- the record itself that was lent, the first or the second, or the empty part where either is refused
-unfoldable pub quieter_record : ℕ → MutBor (List ℤ) → MutBor (List ℤ) → GName → MutBor (List ℤ)
-quieter_record m first second name =
+unfoldable pub quieter_record : ℕ → Bor (List ℤ) → Bor (List ℤ) → Bor (List ℤ)
+quieter_record m first second =
     let which : ℕ = (quieter_answer m first.now second.now).which in
-    cond (eqb which 1) first (cond (eqb which 2) second (empty_part first name))
+    cond (eqb which 1) first (cond (eqb which 2) second (empty_part first))

@@ -25,7 +25,7 @@ pub struct QuieterAnswer {
 // The record itself, of the two that are lent, which has the smaller Allan variance at factor m; on equality the first. If either is refused, the
 // empty part: `which_quieter` says why.
 pub fn quieter<'a>(first: &'a [i64], second: &'a [i64], m: u64) -> &'a [i64]
-    ensures { result ≡ quieter_record m first.entry second.entry result.ghost_name }
+    ensures { result ≡ quieter_record m first.entry second.entry }
 {
     let answer = which_quieter(first, second, m);
     if answer.which == FIRST {

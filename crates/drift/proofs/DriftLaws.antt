@@ -18,7 +18,7 @@ use Rattle.laws.proofs.Tests.{choice_false}
 use Rattle.laws.proofs.ListLaws.{tabulate_length, tabulate_entry, none_fails, written_so_far, written_so_far_length}
 use Rattle.laws.proofs.Parts.{plus, minus, one_part, size_is, small_fits, parts_of_equal}
 use Rattle.laws.proofs.Expressions.{Expression, $◌, ±◌, #◌, ◌∋◌, ◌⊕◌, ◌⊖◌, ◌⊗◌, ◌⊑◌, ◌⊏◌, ⟦◌⟧, sound, equation}
-use Rattle.laws.proofs.Machine.{Fit, machine, read_back, machine_is, lt_taken, lt_left, cast_fits, cast_is}
+use Rattle.laws.proofs.Machine.{Fit, machine, result, operation_fits, read_back, machine_is, lt_taken, lt_left, cast_fits, cast_is}
 use Rattle.record.specs.Refusals.{none, refused, refused_if, ◌then◌, in_range, range_refusal}
 use Rattle.record.specs.declared.Refusal.{Refusal}
 use Rattle.sums.specs.Published.{difference}
@@ -186,6 +186,11 @@ module _ (xs : List ℤ) (unrefused : drift_refusal xs ≡ none) {p : ℤ} (p-is
     pub under_within : (under ≤ 2 ^ 42) × (under / r ≤ 2 ^ 42) × (under % r < r)
     under_within = omega (arith, under_is, p_within, size_is p, div-le_self under r, mod-lt under r_some)
 
+    -- the quotient with one more is taken from nought within a word
+    pub under_taken : SFits w64 (result w64 (below_of (under / r + 1)))
+    under_taken =
+        operation_fits w64 (below_of (under / r + 1)) (below_fits (under / r + 1) (small_fits (pos (under / r + 1)) (omega (arith, under_within))))
+
     pub split_under :
         let rest = r - 1 - under % r in
         (rest < drift_r xs) × (drift_p xs ≡ machine w64 (below_of (under / r + 1)) *ℤ pos (drift_r xs) +ℤ pos rest)
@@ -328,7 +333,7 @@ module _ (xs : List ℤ) where
   -- what the machine reads of a result that a call gave, and what its test tells
   module _ (i : ℕ) {y : ℤ} (y-is : y ≡ at (without_drift xs) i) (fits : mag y < 2 ^ 63) where
     pub result_read : to_z w64 (of_z w64 y) ≡ at (without_drift xs) i
-    result_read = read_back refl (record { sfits = fits }) ∙ y-is
+    result_read = read_back {w = w64} refl (record { sfits = fits }) ∙ y-is
 
     pub result_tells : {answer b : Bool} → answer ≡ in_range (to_z w64 (of_z w64 y)) → answer ≡ b → in_range (at (without_drift xs) i) ≡ b
     result_tells e t = ap in_range (sym result_read) ∙ sym e ∙ t
@@ -352,7 +357,7 @@ module _ (xs : List ℤ) where
       record { number = 0; place = 0; p = to_z w64 (of_z w64 y); r = r } ≡ drift_answer xs
   unfolding drift_answer
   figure_answered unrefused y-is r-is =
-      rw (unrefused, r-is) (ap (λ (z : ℤ). record { number = 0; place = 0; p = z; r = drift_r xs }) (read_back y-is (small_fits (drift_p xs) (omega (arith, figure_within xs unrefused)))))
+      rw (unrefused, r-is) (ap (λ (z : ℤ). record { number = 0; place = 0; p = z; r = drift_r xs }) (read_back {w = w64} y-is (small_fits (drift_p xs) (omega (arith, figure_within xs unrefused)))))
 
 -- ---- 2, 1, 6, 3 at a sample, 3 at a result: removal
 

@@ -15,11 +15,6 @@ module _ (n : ℕ) (params : List (ParamKind n)) (result : ResultKind n) (Post :
   Single = (κs : Lfts n) (args : Dens κs params) (z z' : (res_t result κs).Denot) (w w' : Lasts (ended_of n params result) κs args) →
       Allows κs args z w → Allows κs args z' w' → (z ≡ z') × (w ≡ w')
 
-  -- the same of what is seen of the result, where the result has a part besides that no program sees: a slice that is made anew has a ghost name
-  abbrev pub SingleSeen : {X : Type 0} → ((κs : Lfts n) → (res_t result κs).Denot → X) → Type 0
-  SingleSeen seen = (κs : Lfts n) (args : Dens κs params) (z z' : (res_t result κs).Denot) (w w' : Lasts (ended_of n params result) κs args) →
-      Allows κs args z w → Allows κs args z' w' → (seen κs z ≡ seen κs z') × (w ≡ w')
-
   -- whatever the contract allows of any arguments has a property
   module _ (Property : (κs : Lfts n) (args : Dens κs params) → (res_t result κs).Denot → Lasts (ended_of n params result) κs args → Type 0) where
     abbrev pub Always : Type 0

@@ -117,16 +117,16 @@ module _ (x : Meter) (ring : List ℤ) (v : ℤ) (fits : SFits w64 v) (lies : sl
     (one-fits : SFits w64 one) (two_fits : SFits w64 two) (three-fits : SFits w64 three) {number : ℕ}
     (given : number ≡ number_of (in_range (read one) && (in_range (read two) && in_range (read three))) (eqb x.n 32768) (in_range (read v))) where
   sample_read : read v ≡ v
-  sample_read = read_back refl fits
+  sample_read = read_back {w = w64} refl fits
 
   one_read : read one ≡ read_one x ring
-  one_read = read_back refl one-fits ∙ one-is
+  one_read = read_back {w = w64} refl one-fits ∙ one-is
 
   two_read : read two ≡ read_two x ring
-  two_read = read_back refl two_fits ∙ two_is
+  two_read = read_back {w = w64} refl two_fits ∙ two_is
 
   three_read : read three ≡ read_three x ring
-  three_read = read_back refl three-fits ∙ three-is
+  three_read = read_back {w = w64} refl three-fits ∙ three-is
 
   refusal_is : sample_refusal x ring v ≡ refused number 0
   refusal_is =

@@ -87,7 +87,7 @@ module _ (x : Meter) (together : holds_together x ≡ true) (d e : ℤ) (d-withi
 sum_takes_square : (total : Wide) → total.hi < 2 ^ 62 → total.lo < 2 ^ 64 → (z : ℤ) → nat_abs z ≤ 2 ^ 56 → {next : Wide} →
     next ≡ wide_sum total (halves (square (read z))) → next ≡ halves (value total + square z)
 sum_takes_square total high low z small next_is =
-    let read_is : read z ≡ z = read_back refl (small_fits z (omega arith)) in
+    let read_is : read z ≡ z = read_back {w = w64} refl (small_fits z (omega arith)) in
     let same : value total + value (halves (square z)) ≡ value total + square z = ap (λ (t : ℕ). value total + t) (value_of_halves (square z)) in
     let below : value total + square z < 2 ^ 126 + 2 ^ 112 = omega (arith, square_within_lem z small) in
     next_is ∙ ap (λ (t : ℤ). wide_sum total (halves (square t))) read_is
@@ -112,7 +112,7 @@ module _ (x : Meter) (together : holds_together x ≡ true) where
 
   module _ (d w : ℤ) (d-within : nat_abs d ≤ 2 ^ 42) (w-within : nat_abs w ≤ 2 ^ 56) where
     window_read : read w ≡ w
-    window_read = read_back refl (small_fits w (omega arith))
+    window_read = read_back {w = w64} refl (small_fits w (omega arith))
 
     -- before there is a second difference a sample is counted
     pub sample_counted : x.stretch < 2 * x.m → meter_of x x.k x.c x.a x.b w ≡ with_terms x d w
@@ -146,7 +146,7 @@ module _ (x : Meter) (together : holds_together x ≡ true) where
 -- ---- a sample by the old samples that were read
 
 sample_read : (z : ℤ) → nat_abs z ≤ 2 ^ 40 → read z ≡ z
-sample_read z within = read_back refl (small_fits z (omega arith))
+sample_read z within = read_back {w = w64} refl (small_fits z (omega arith))
 
 pub samples_read : (x y z : ℤ) → Samples x y z → Samples (read x) (read y) (read z)
 samples_read x y z within = rw (sample_read x within.0, sample_read y within.1, sample_read z within.2) within
@@ -156,7 +156,7 @@ module _ (x y z : ℤ) (within : Samples x y z) {d : ℤ} (d-is : d ≡ read x -
   difference_is = d-is ∙ rw (sample_read x within.0, sample_read y within.1, sample_read z within.2)
 
   difference_read : read d ≡ x -ℤ pos 2 *ℤ y +ℤ z
-  difference_read = read_back difference_is (small_fits _ (omega (arith, difference_within x y z within)))
+  difference_read = read_back {w = w64} difference_is (small_fits _ (omega (arith, difference_within x y z within)))
 
   pub read_difference_within : nat_abs (read d) ≤ 2 ^ 42
   read_difference_within = rw difference_read (difference_within x y z within)
@@ -181,7 +181,7 @@ module _ (x : Meter) (together : holds_together x ≡ true) (v one two three : �
   E_within = difference_within one two three oldest
 
   read_window : read w ≡ window_with x D E
-  read_window = read_back window_is (small_fits _ (omega (arith, window_within x together D E D_within E_within)))
+  read_window = read_back {w = w64} window_is (small_fits _ (omega (arith, window_within x together D E D_within E_within)))
 
   pub read_window_within : nat_abs (read w) ≤ 2 ^ 56
   read_window_within = rw read_window (window_within x together D E D_within E_within)

@@ -129,6 +129,14 @@ pub one_value_one_double : (x y : Float) → T (fits binary64 x) → T (fits bin
 one_value_one_double (fin false (suc m) e) (fin false (suc n) g) double-x double-y above-x above-y same =
     let agree = exponents_agree (suc m) (suc n) e g (last_digit_one false m e double-x) (last_digit_one false n g double-y) same in
     λ i. fin false (agree.0 i) (agree.1 i)
+one_value_one_double nan y double-x double-y above-x above-y same = elim above-x [ ]
+one_value_one_double (inf _) y double-x double-y above-x above-y same = elim above-x [ ]
+one_value_one_double (fin false zero e) y double-x double-y above-x above-y same = elim above-x [ ]
+one_value_one_double (fin false (suc m) e) nan double-x double-y above-x above-y same = elim above-y [ ]
+one_value_one_double (fin false (suc m) e) (inf _) double-x double-y above-x above-y same = elim above-y [ ]
+one_value_one_double (fin false (suc m) e) (fin false zero g) double-x double-y above-x above-y same = elim above-y [ ]
+one_value_one_double (fin false (suc m) e) (fin true _ g) double-x double-y above-x above-y same = elim above-y [ ]
+one_value_one_double (fin true _ e) y double-x double-y above-x above-y same = elim above-x [ ]
 
 pub neither_less_same : (x y : Float) → T (fits binary64 x) → T (fits binary64 y) → T (positive x) → T (positive y)
     → T (le x y) → T (le y x) → x ≡ y
@@ -149,7 +157,13 @@ minus_not_above m e (fin false n g) above =
     either_holds (lt (fin true m e) (fin false n g)) (eq (fin true m e) (fin false n g))
     (lt→ltb 0 (m * up e * down g + n * up g * down e)
     (some_more (m * up e * down g) (n * up g * down e) (mul-pos (mul-pos (ltb→lt 0 n above) (up_pos g)) (down_pos e))))
+minus_not_above m e nan above = elim above [ ]
+minus_not_above m e (inf _) above = elim above [ ]
+minus_not_above m e (fin true n g) above = elim above [ ]
 
 pub minus_infinity_not_above : (x : Float) → T (positive x) → T (le (inf true) x)
 unfolding le
 minus_infinity_not_above (fin false n g) above = tt
+minus_infinity_not_above nan above = elim above [ ]
+minus_infinity_not_above (inf _) above = elim above [ ]
+minus_infinity_not_above (fin true n g) above = elim above [ ]

@@ -1,7 +1,7 @@
 -- A drawn number is the one greatest double not above r / 2^20, and drawn numbers keep the order of what they are drawn from.
 use Rattle.std.proofs.Common.{◌≡◌, ℕ, suc, ◌+◌, ◌*◌, ◌^◌, ◌<◌, ◌≤◌, true, false, T, ℤ, pos, negsuc, sym, refl, ap, ◌∙◌, le_trans, le_of_eq, mul-le-mul_right, mul_assoc, mul-one, arith, lit≤, pow_pos, pow-add, le-leb}
 use borrow.Author.Tests.{lt-leb}
-use lib.Ieee.{Float, inf, fin, binary64, up, down, le, fits}
+use lib.Ieee.{Float, nan, inf, fin, binary64, up, down, le, fits}
 use lib.Ieee.Fits.{down_pos, round-fits}
 use lib.Ieee.Exact.{HasValue}
 use lib.Ieee.Order.{le_of_values, round_mono}
@@ -25,6 +25,8 @@ none_between m r (negsuc k) digits most =
 value_not_above : (x : Float) (w r : ℕ) → w ≤ r → HasValue x false w (2 ^ 20) → NotAbove x r (2 ^ 20)
 value_not_above (fin true m e) w r order value = tt
 value_not_above (fin false m e) w r order value = le_trans (le_of_eq value.1) (mul-le-mul_right (down e) order)
+value_not_above nan w r order value = elim value [ ]
+value_not_above (inf _) w r order value = elim value [ ]
 
 module _ (r : ℕ) (x : Float) (least : 1 ≤ r) (value : HasValue x false (kept r) (2 ^ 20)) where
   above_nought : T (positive x)
@@ -36,6 +38,8 @@ module _ (r : ℕ) (x : Float) (least : 1 ≤ r) (value : HasValue x false (kept
   none_greater (fin false m e) double most =
       le_of_values (fin false m e) x (m * up e) (down e) (kept r) (2 ^ 20) (down_pos e) (pow_pos 20) (refl, refl) value
       (none_between m r e (digits_below false m e double) most)
+  none_greater nan double most = elim most [ ]
+  none_greater (inf false) double most = elim most [ ]
 
 -- ---- the drawn number
 

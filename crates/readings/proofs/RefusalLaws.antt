@@ -80,7 +80,7 @@ module _ (xs : List Float) where
   sample_stored unrefused before i inside room front is =
       let number = unrefused_sample xs (ap (λ (r : Refusal). r.number) unrefused) i inside in
       written_one_more (samples_of xs) before i (pos 0) (omega (arith, samples_length)) room front
-      (read_back is (small_fits (sample_of (get_or xs i nan)) (omega (arith, sample_bounded _ number))) ∙ sym (sample_at i))
+      (read_back {w = w64} is (small_fits (sample_of (get_or xs i nan)) (omega (arith, sample_bounded _ number))) ∙ sym (sample_at i))
 
   -- the output at the buffer's front is read back whole
   module _ (before : List ℤ) {left : List ℤ} (front : left ≡ written (samples_of xs) before) where
