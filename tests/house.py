@@ -4,10 +4,10 @@
     tests/house.py SYMBOLS [ROOT]
 
 SYMBOLS is a file with the archive's symbols, one a line. Every public function takes every input, promises something and has its theorems. An
-exported function calls one of these, by the same name, and has its contract word for word. The sources, the header, the archive, the Rust
-declarations and the documents name the same exported functions, with the same orders of refusals, and the header gives them the same parameters and
-answers. Whatever docs/STATEMENTS.md names stands where it says, by the rules that stand there. The header has the version of the Rust packages, and no
-document names a file that is not there. This reads text: whether a theorem is proved is the prover's to say. house_test.py tries it."""
+exported function has the contract of the one of its name, word for word. The sources, the header, the archive, the Rust declarations and the
+documents name the same exported functions, with the same orders of refusals, and the header gives them the same parameters and answers. Whatever
+docs/STATEMENTS.md names stands where it says, by the rules that stand there. The header has the version of the Rust packages, and no document names a
+file that is not there. This reads text: whether a theorem is proved is the prover's to say. house_test.py tries it."""
 import re
 import sys
 from collections import defaultdict, namedtuple
@@ -29,8 +29,8 @@ ENTRIES = {"plg_quieter": "which_quieter"}
 # The numbers of refusals, and with them those of two digits.
 DIGIT, DIGITS = "[1-9]", r"[1-9]\d?"
 
-# The clauses are the kinds of those of the contract; the contract is its text, and the body what stands in the braces after it.
-Function = namedtuple("Function", "crate path owner name exported clauses parameters answer contract body")
+# The clauses are the kinds of those of the contract, and the contract is its text.
+Function = namedtuple("Function", "crate path owner name exported clauses parameters answer contract")
 
 
 class House:
@@ -82,13 +82,12 @@ def closed(text, start):
 
 
 def clauses(text, start):
-    """The clauses of a contract, by their first words, its text, and the body after it."""
+    """The clauses of a contract, by their first words, up to the body, and its text."""
     found, begins = [], start
     while (mark := re.compile(r"\b(requires|ensures)\b|\{").search(text, start)) and mark[1]:
         found.append(mark[1])
         start = closed(text, text.index("{", mark.end()))
-    body = text[mark.start() + 1:closed(text, mark.start()) - 1] if mark else ""
-    return found, " ".join(text[begins:start].split()), " ".join(body.split())
+    return found, " ".join(text[begins:start].split())
 
 
 def owner_at(text, place):
@@ -108,8 +107,8 @@ def functions_in(house, crate, path):
     found = []
     for m in re.finditer(HEAD, text, re.X):
         if bool(m[1]) == ("extern" in m[2]):
-            kinds, contract, body = clauses(text, m.end())
-            found.append(Function(crate, path, owner_at(text, m.start()), m[3], bool(m[1]), kinds, m[4], m[5], contract, body))
+            kinds, contract = clauses(text, m.end())
+            found.append(Function(crate, path, owner_at(text, m.start()), m[3], bool(m[1]), kinds, m[4], m[5], contract))
     read = {f.name for f in found}
     for name in re.findall(r"\bpub\s+(?:[\w\"]+\s+)*fn\s+(\w+)", text) + re.findall(r"no_mangle\)?\][^{]*?\bfn\s+(\w+)", text):
         if name not in read:
@@ -170,22 +169,7 @@ def check_promises(house):
                 house.lack(f"{told(f)} has no ensures")
 
 
-# ---- exported functions and what they call
-
-
-def called(house, f, functions):
-    """The function that an exported one hands its parameters to, in their order, and does nothing else."""
-    call = re.fullmatch(r"((?:\w+::)+)(\w+)\(([^()]*)\)", f.body)
-    handed = [word.strip() for word in call[3].split(",") if word.strip()] if call else None
-    if handed != re.findall(r"(\w+): ", f.parameters) or call[2] != f.name:
-        house.lack(f"{told(f)} is no call of a function of its own name with its own parameters")
-        return None
-    crate, *modules = call[1].removesuffix("::").split("::")
-    path = f"crates/{crate}/src/{'/'.join(modules or ['lib'])}.rt"
-    found = [g for g in functions if g.path == path and g.name == f.name and not g.owner and not g.exported]
-    if not found:
-        house.lack(f"{told(f)} calls no public function of {path}")
-    return found[0] if found else None
+# ---- exported functions and those whose contract they have
 
 
 def ghost_names(house, path):
@@ -196,17 +180,28 @@ def ghost_names(house, path):
     return found
 
 
-def check_call(house, f, functions):
-    """An exported function promises what the one that it calls promises, in the same words, which mean the same; that one is given."""
-    entry = called(house, f, functions)
-    if entry:
-        ours, theirs = ghost_names(house, f.path), ghost_names(house, entry.path)
-        used = {word for word in re.findall(r"[^\s(){}\[\],;.]+", f.contract) if word in ours or word in theirs}
-        if (f.contract, f.parameters.rstrip(", \n"), f.answer) != (entry.contract, entry.parameters.rstrip(", \n"), entry.answer):
-            house.lack(f"{told(f)} has not the contract of {told(entry)}")
-        for word in sorted(used):
-            if ours.get(word) != theirs.get(word):
-                house.lack(f"{told(f)} has {word} from {ours.get(word)}, and {told(entry)} from {theirs.get(word)}")
+def head(f):
+    """The parameters, the answer and the contract, spaced alike."""
+    return re.findall(r"(\w+): ([^,]+)", " ".join(f.parameters.split())), f.answer, f.contract
+
+
+def check_exported(house, f, functions):
+    """An exported function promises what the one function of its name promises, in the same words, which mean the same; that one is given."""
+    entries = [g for g in functions if g.name == f.name and not (g.exported or g.owner)]
+    if len(entries) != 1:
+        house.lack(f"{told(f)} has {len(entries)} public functions of its own name to have the contract of, and one is wanted")
+        return None
+    entry = entries[0]
+    if head(f) != head(entry):
+        house.lack(f"{told(f)} has not the contract of {told(entry)}")
+    ours, theirs = ghost_names(house, f.path), ghost_names(house, entry.path)
+    for word in sorted(set(re.findall(r"[^\s(){}\[\],;.]+", f.contract)) & (ours.keys() | theirs.keys())):
+        if ours.get(word) != theirs.get(word):
+            house.lack(f"{told(f)} has {word} from {ours.get(word)}, and {told(entry)} from {theirs.get(word)}")
+    for name in sorted(set(re.findall(r"\b[A-Z]\w+", f"{f.parameters} {f.answer}"))):
+        places = [declared_fields(house, path, name)[0] for path in (f.path, entry.path)]
+        if places[0] != places[1]:
+            house.lack(f"{told(f)} has {name} from {places[0]}, and {told(entry)} from {places[1]}")
     return entry
 
 
@@ -676,7 +671,7 @@ def looked_over(root, symbols):
     check_crates(house)
     check_promises(house)
     functions = public_functions(house)
-    entries = [check_call(house, f, functions) for f in functions if f.exported]
+    entries = [check_exported(house, f, functions) for f in functions if f.exported]
     for f in functions:
         check_contract(house, f)
         if not f.exported:

@@ -12,7 +12,8 @@ import house
 
 ROOT = Path(__file__).resolve().parent.parent
 SUMS, RECORD, METER = "crates/sums/src/lib.rt", "crates/record/src/lib.rt", "crates/meter/src/lib.rt"
-PUBLISHED, UNIQUE = "crates/ploegelster_c/src/published.rt", "crates/sums/proofs/Unique.antt"
+UNIQUE = "crates/sums/proofs/Unique.antt"
+PUBLISHED, ENTRIES = "crates/ploegelster_c/src/published.rt", "crates/ploegelster/src/published.rt"
 CONDITION1, CONDITION2 = house.CONDITION1, "crates/acceptance/proofs/Condition2.antt"
 GROUNDS = house.GROUNDS
 HEADER, RULES, STATEMENTS = house.HEADER, house.RULES, house.STATEMENTS
@@ -73,14 +74,12 @@ CASES = [
      "pub fn plg_time_fraction of crates/ploegelster_c/src/published.rt has not the contract of pub fn plg_time_fraction of crates/ploegelster/src/"),
     (PUBLISHED, "ensures { result ≡ time_fraction_answer (value sum) m count }", "",
      "pub fn plg_time_fraction of crates/ploegelster_c/src/published.rt has no ensures"),
-    (PUBLISHED, "::plg_time_fraction(sum, m, count)", "::plg_allan_fraction(sum, m, count)",
-     "pub fn plg_time_fraction of crates/ploegelster_c/src/published.rt is no call of a function of its own name"),
-    (PUBLISHED, "::plg_time_fraction(sum, m, count)", "::plg_time_fraction(sum, count, m)",
-     "pub fn plg_time_fraction of crates/ploegelster_c/src/published.rt is no call of a function of its own name"),
     (PUBLISHED, "ghost use Rattle.wide.specs.Wide.{value}", "ghost use Rattle.wide.specs.Halves.{value}",
      "pub fn plg_time_fraction of crates/ploegelster_c/src/published.rt has value from Rattle.wide.specs.Halves.value, and"),
-    ("crates/ploegelster/src/published.rt", "pub fn plg_time_fraction", "pub(crate) fn plg_time_fraction",
-     "pub fn plg_time_fraction of crates/ploegelster_c/src/published.rt calls no public function of crates/ploegelster/src/published.rt"),
+    (PUBLISHED, "use wide::Wide;", "use laws::Wide;",
+     "pub fn plg_time_fraction of crates/ploegelster_c/src/published.rt has Wide from crates/laws/src/lib.rt, and"),
+    (ENTRIES, "pub fn plg_time_fraction", "pub(crate) fn plg_time_fraction",
+     "pub fn plg_time_fraction of crates/ploegelster_c/src/published.rt has 0 public functions of its own name"),
     (HEADER, "plg_drawn_answer plg_drawn_number(uint64_t r);", "", "plg_drawn_number is exported and not declared in include/ploegelster.h"),
     (HEADER, "plg_drawn_answer plg_drawn_number(", "plg_drawn_answer plg_spare(uint64_t r);\nplg_drawn_answer plg_drawn_number(",
      "plg_spare is declared in include/ploegelster.h and not exported"),
