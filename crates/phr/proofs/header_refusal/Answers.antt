@@ -14,7 +14,10 @@ found c = c.sound_up_to-sound.ensures
 
 -- what is known of the bytes where a test is left
 sound_there : (c : Else-sound-lt8) → 8 ≤ sound_up_to either_tests c.args.bytes.now
-sound_there c = omega (arith, found c.before)
+unfolding either_tests
+sound_there c =
+    let found_here : c.sound_up_to-sound.result ≡ sound_up_to either_tests c.args.bytes.now = c.sound_up_to-sound.ensures in
+    omega (arith, found_here)
 
 eight_there : (c : Else-sound-lt8) → 8 ≤ length c.args.bytes.now
 eight_there c = omega (arith, sound_there c, sound_within either_tests c.args.bytes.now)

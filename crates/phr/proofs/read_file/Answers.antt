@@ -17,7 +17,7 @@ eight_there c = omega (arith, (readable_there c).sound, sound_within header_test
 pub returns-then-number-ne0 : goal.returns-then-number-ne0
 returns-then-number-ne0 c =
     let r = c.read_refusal-refusal in
-    record { value = (read_refused _ _ _ r.result.number r.result.place (omega (arith, c.if-number-ne0.true)) (sym r.ensures) refl).0; buffer_after = (read_refused _ _ _ r.result.number r.result.place (omega (arith, c.if-number-ne0.true)) (sym r.ensures) refl).1 }
+    record { value = (read_refused _ _ c.args.buffer.now r.result.number r.result.place (omega (arith, c.if-number-ne0.true)) (sym r.ensures) refl).0; buffer_after = (read_refused _ _ c.args.buffer.now r.result.number r.result.place (omega (arith, c.if-number-ne0.true)) (sym r.ensures) refl).1 }
 
 pub count_of-count-requires : goal.count_of-count-requires
 count_of-count-requires c = eight_there (goal.at.count_of-count-requires c).Else-number-ne0
@@ -32,4 +32,4 @@ kind_of-requires c = eight_there (goal.at.kind_of-requires c).Else-number-ne0
 
 pub returns : goal.returns
 returns c =
-    record { value = (read_answered _ _ _ (readable_none _ _ (readable_there (goal.at.returns c).Else-number-ne0)) c.kind_of.ensures c.count_of-count.ensures c.read_values.ensures).0; buffer_after = (read_answered _ _ _ (readable_none _ _ (readable_there (goal.at.returns c).Else-number-ne0)) c.kind_of.ensures c.count_of-count.ensures c.read_values.ensures).1 }
+    record { value = (read_answered _ _ c.args.buffer.now (readable_none _ _ (readable_there (goal.at.returns c).Else-number-ne0)) c.kind_of.ensures c.count_of-count.ensures c.read_values.ensures).0; buffer_after = (read_answered _ _ c.args.buffer.now (readable_none _ _ (readable_there (goal.at.returns c).Else-number-ne0)) c.kind_of.ensures c.count_of-count.ensures c.read_values.ensures).1 }

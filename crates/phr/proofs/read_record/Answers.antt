@@ -17,7 +17,7 @@ eight_there c = omega (arith, (readable_there c).header.sound, sound_within eith
 pub returns-then-number-ne0 : goal.returns-then-number-ne0
 returns-then-number-ne0 c =
     let r = c.read_record_refusal-refusal in
-    record { value = (record_refused _ _ _ r.result.number r.result.place (omega (arith, c.if-number-ne0.true)) (sym r.ensures) c.refused_record.ensures).0; buffer_after = (record_refused _ _ _ r.result.number r.result.place (omega (arith, c.if-number-ne0.true)) (sym r.ensures) c.refused_record.ensures).1 }
+    record { value = (record_refused _ _ c.args.buffer.now r.result.number r.result.place (omega (arith, c.if-number-ne0.true)) (sym r.ensures) c.refused_record.ensures).0; buffer_after = (record_refused _ _ c.args.buffer.now r.result.number r.result.place (omega (arith, c.if-number-ne0.true)) (sym r.ensures) c.refused_record.ensures).1 }
 
 pub head_length-requires : goal.head_length-requires
 head_length-requires c = eight_there (goal.at.head_length-requires c).Else-number-ne0
@@ -35,4 +35,4 @@ said-requires c = (eight_there (goal.at.said-requires c).Else-number-ne0, (reada
 
 pub returns : goal.returns
 returns c =
-    record { value = (record_answered _ _ _ (readable_record_none _ _ (readable_there (goal.at.returns c).Else-number-ne0)) c.said.ensures c.count_of.ensures c.head_length.ensures c.read_values.ensures).0; buffer_after = (record_answered _ _ _ (readable_record_none _ _ (readable_there (goal.at.returns c).Else-number-ne0)) c.said.ensures c.count_of.ensures c.head_length.ensures c.read_values.ensures).1 }
+    record { value = (record_answered _ _ c.args.buffer.now (readable_record_none _ _ (readable_there (goal.at.returns c).Else-number-ne0)) c.said.ensures c.count_of.ensures c.head_length.ensures c.read_values.ensures).0; buffer_after = (record_answered _ _ c.args.buffer.now (readable_record_none _ _ (readable_there (goal.at.returns c).Else-number-ne0)) c.said.ensures c.count_of.ensures c.head_length.ensures c.read_values.ensures).1 }

@@ -17,12 +17,6 @@ header_there c = unrefused_header _ (sym (ap (λ (z : Refusal). z.number) c.head
 eight_there : (c : Else-refusal-ne0) → 8 ≤ length c.args.bytes.now
 eight_there c = omega (arith, (header_there c).sound, sound_within either_tests c.args.bytes.now)
 
-after_header : (c : Else-refusal-ne0) → let a = c.args in read_record_refusal a.bytes.now a.room
-    ≡ (count_refusal (head_length a.bytes.now) a.bytes.now a.room then refused_if (not (in_range (start_of a.bytes.now))) 3 0
-    then values_refusal (kind_of a.bytes.now) (record_values a.bytes.now))
-unfolding read_record_refusal
-after_header c = none_gives_way _ _ (sym (ap (λ (z : Refusal). z.number) c.header_refusal-refusal.ensures) ∙ c.if-refusal-ne0.false)
-
 count_there : (c : After-count_refusal-refusal) → let a = c.args in
     c.count_refusal-refusal.result ≡ count_refusal (head_length a.bytes.now) a.bytes.now a.room
 count_there c =
@@ -31,7 +25,10 @@ count_there c =
 
 number_there : (c : Else-refusal-ne0-2) → let a = c.args in
     (count_refusal (head_length a.bytes.now) a.bytes.now a.room).number ≡ 0
-number_there c = sym (ap (λ (z : Refusal). z.number) (count_there c.before.before)) ∙ c.if-refusal-ne0-2.false
+number_there c =
+    let count_there_here : let a = c.args in
+    c.count_refusal-refusal.result ≡ count_refusal (head_length a.bytes.now) a.bytes.now a.room = let a = c.args in c.count_refusal-refusal.ensures ∙ ap (λ (head : ℕ). count_refusal head a.bytes.now a.room) c.head_length-head.ensures in
+    sym (ap (λ (z : Refusal). z.number) (count_there_here)) ∙ c.if-refusal-ne0-2.false
 
 head_there : (c : Else-refusal-ne0-2) → c.head_length-head.result ≡ head_length c.args.bytes.now
 head_there c = c.head_length-head.ensures
@@ -41,10 +38,15 @@ counted_there c = unrefused_counted _ _ _ (number_there c)
 
 after_count : (c : Else-refusal-ne0-2) → let a = c.args in read_record_refusal a.bytes.now a.room
     ≡ (refused_if (not (in_range (start_of a.bytes.now))) 3 0 then values_refusal (kind_of a.bytes.now) (record_values a.bytes.now))
-after_count c = after_header c.before.before.before.before ∙ none_gives_way _ _ (number_there c)
+unfolding read_record_refusal
+after_count c =
+    let after_header_here : let a = c.args in read_record_refusal a.bytes.now a.room
+    ≡ (count_refusal (head_length a.bytes.now) a.bytes.now a.room then refused_if (not (in_range (start_of a.bytes.now))) 3 0
+    then values_refusal (kind_of a.bytes.now) (record_values a.bytes.now)) = none_gives_way _ _ (sym (ap (λ (z : Refusal). z.number) c.header_refusal-refusal.ensures) ∙ c.if-refusal-ne0.false) in
+    after_header_here ∙ none_gives_way _ _ (number_there c)
 
 start_test : (c : After-in_range) → in_range (start_of c.args.bytes.now) ≡ c.in_range.result
-start_test c = let s = c.start_of in ap in_range (sym (loaded_value _ s.type-inv ∙ s.ensures)) ∙ sym c.in_range.ensures
+start_test c = let s = c.start_of in ap in_range (sym (loaded_value _ s.type_inv ∙ s.ensures)) ∙ sym c.in_range.ensures
 
 pub returns-then-refusal-ne0 : goal.returns-then-refusal-ne0
 unfolding read_record_refusal

@@ -13,7 +13,9 @@ found : (c : After-sound_up_to-sound) → c.sound_up_to-sound.result ≡ sound_u
 found c = c.sound_up_to-sound.ensures ∙ ap (λ tests. sound_up_to tests c.args.bytes.now) one_version
 
 sound_there : (c : Else-sound-lt8) → 8 ≤ sound_up_to header_tests c.args.bytes.now
-sound_there c = omega (arith, found c.before)
+sound_there c =
+    let found_here : c.sound_up_to-sound.result ≡ sound_up_to header_tests c.args.bytes.now = c.sound_up_to-sound.ensures ∙ ap (λ tests. sound_up_to tests c.args.bytes.now) one_version in
+    omega (arith, found_here)
 
 number_there : (c : Else-refusal-ne0) → let a = c.args in (count_refusal 8 a.bytes.now a.room).number ≡ 0
 number_there c = sym (ap (λ (z : Refusal). z.number) c.count_refusal-refusal.ensures) ∙ c.if-refusal-ne0.false

@@ -21,7 +21,7 @@ write_first_eight-requires c = let w = writable_there (goal.at.write_first_eight
 
 pub write_values-requires : goal.write_values-requires
 write_values-requires c =
-    omega (arith, (writable_there (goal.at.write_values-requires c).Else-number-ne0).enough, c.write_first_eight.auto.1.1.1.0)
+    omega (arith, (writable_there (goal.at.write_values-requires c).Else-number-ne0).enough, c.write_first_eight.auto.buffer)
 
 pub returns : goal.returns
 returns c =

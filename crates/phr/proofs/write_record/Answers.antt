@@ -16,11 +16,15 @@ loaded c = loaded_value c.args.start c.ranges.start.sfits
 refusal_there : (c : After-write_record_refusal-refusal) → let a = c.args in
     c.write_record_refusal-refusal.result ≡ write_record_refusal a.kind a.start a.values.now (length a.buffer.now)
 refusal_there c =
-    c.write_record_refusal-refusal.ensures ∙ ap (λ (z : ℤ). write_record_refusal c.args.kind z c.args.values.now (length c.args.buffer.now)) (loaded c.before.before)
+    let loaded_here : to_z w64 (of_z w64 c.args.start) ≡ c.args.start = loaded_value c.args.start c.ranges.start.sfits in
+    c.write_record_refusal-refusal.ensures ∙ ap (λ (z : ℤ). write_record_refusal c.args.kind z c.args.values.now (length c.args.buffer.now)) (loaded_here)
 
 -- what is known where the refusal is none
 writable_there : (c : Else-number-ne0) → let a = c.args in WritableFrom a.kind a.start a.values.now (length a.buffer.now)
-writable_there c = unrefused_from _ _ _ _ (sym (ap (λ (r : Refusal). r.number) (refusal_there c.before)) ∙ c.if-number-ne0.false)
+writable_there c =
+    let refusal_there_here : let a = c.args in
+    c.write_record_refusal-refusal.result ≡ write_record_refusal a.kind a.start a.values.now (length a.buffer.now) = let loaded_here : to_z w64 (of_z w64 c.args.start) ≡ c.args.start = loaded_value c.args.start c.ranges.start.sfits in c.write_record_refusal-refusal.ensures ∙ ap (λ (z : ℤ). write_record_refusal c.args.kind z c.args.values.now (length c.args.buffer.now)) (loaded_here) in
+    unrefused_from _ _ _ _ (sym (ap (λ (r : Refusal). r.number) (refusal_there_here)) ∙ c.if-number-ne0.false)
 
 pub returns-then-number-ne0 : goal.returns-then-number-ne0
 returns-then-number-ne0 c =
@@ -32,11 +36,11 @@ write_first_eight-requires c = let w = (writable_there (goal.at.write_first_eigh
 
 pub write_value-requires : goal.write_value-requires
 write_value-requires c =
-    omega (arith, (writable_there (goal.at.write_value-requires c).Else-number-ne0).writable.enough, c.write_first_eight.auto.1.1.1.0)
+    omega (arith, (writable_there (goal.at.write_value-requires c).Else-number-ne0).writable.enough, c.write_first_eight.auto.buffer)
 
 pub write_values-requires : goal.write_values-requires
 write_values-requires c =
-    omega (arith, (writable_there (goal.at.write_values-requires c).Else-number-ne0).writable.enough, c.write_first_eight.auto.1.1.1.0, c.write_value.auto.0)
+    omega (arith, (writable_there (goal.at.write_values-requires c).Else-number-ne0).writable.enough, c.write_first_eight.auto.buffer, c.write_value.auto.buffer)
 
 pub returns : goal.returns
 returns c =

@@ -22,12 +22,16 @@ range_test c =
 -- what is left to be tested where the start is one that the kind can have, and where there is room too
 after_start : (c : Else-not-start_fits) → let a = c.args in write_record_refusal a.kind a.start a.values.now a.room
     ≡ (room_refusal 16 a.kind (length a.values.now) a.room then refused_if (not (in_range a.start)) 3 0 then values_refusal a.kind a.values.now)
-after_start c = let a = c.args in start_allowed a.kind a.start a.values.now a.room (omega arith) (start_test c.before ∙ c.if-not-start_fits.false)
+after_start c =
+    let start_test_here : let a = c.args in start_fits a.kind a.start ≡ c.start_fits.result = ap (start_fits c.args.kind) (sym (loaded_value c.args.start c.ranges.start.sfits)) ∙ sym c.start_fits.ensures in
+    let a = c.args in start_allowed a.kind a.start a.values.now a.room (omega arith) (start_test_here ∙ c.if-not-start_fits.false)
 
 after_room : (c : Else-refusal-ne0) → let a = c.args in write_record_refusal a.kind a.start a.values.now a.room
     ≡ (refused_if (not (in_range a.start)) 3 0 then values_refusal a.kind a.values.now)
 after_room c =
-    after_start c.before.before.before ∙ none_gives_way _ _ (sym (ap (λ (z : Refusal). z.number) c.room_refusal-refusal.ensures) ∙ c.if-refusal-ne0.false)
+    let after_start_here : let a = c.args in write_record_refusal a.kind a.start a.values.now a.room
+    ≡ (room_refusal 16 a.kind (length a.values.now) a.room then refused_if (not (in_range a.start)) 3 0 then values_refusal a.kind a.values.now) = let start_test_here : let a = c.args in start_fits a.kind a.start ≡ c.start_fits.result = ap (start_fits c.args.kind) (sym (loaded_value c.args.start c.ranges.start.sfits)) ∙ sym c.start_fits.ensures in let a = c.args in start_allowed a.kind a.start a.values.now a.room (omega arith) (start_test_here ∙ c.if-not-start_fits.false) in
+    after_start_here ∙ none_gives_way _ _ (sym (ap (λ (z : Refusal). z.number) c.room_refusal-refusal.ensures) ∙ c.if-refusal-ne0.false)
 
 pub returns-then-kind-gt1 : goal.returns-then-kind-gt1
 returns-then-kind-gt1 c = c.refused.ensures ∙ sym (no_such_kind_from c.args.kind _ _ _ (omega arith))

@@ -6,27 +6,27 @@ use Rattle.phr.proofs.header.header_byte.Goals as goal
 
 pub returns-in-0 : goal.returns-in-0
 unfolding tests_of
-returns-in-0 c = rw c.in_default.keys1
+returns-in-0 c = rw c.in-0.is
 
 pub returns-in-1 : goal.returns-in-1
 unfolding tests_of
-returns-in-1 c = rw c.in_default.keys2
+returns-in-1 c = rw c.in-1.is
 
 pub returns-in-2 : goal.returns-in-2
 unfolding tests_of
-returns-in-2 c = rw c.in_default.keys3
+returns-in-2 c = rw c.in-2.is
 
 pub returns-in-3 : goal.returns-in-3
 unfolding tests_of
-returns-in-3 c = rw c.in_default.keys4 c.version_known.ensures
+returns-in-3 c = rw c.in-3.is c.version_known.ensures
 
 pub returns-in-4 : goal.returns-in-4
 unfolding tests_of
-returns-in-4 c = rw c.in_default.keys5
+returns-in-4 c = rw c.in-4.is
 
 pub returns-in-5 : goal.returns-in-5
 unfolding tests_of
-returns-in-5 c = rw c.in_default.keys6
+returns-in-5 c = rw c.in-5.is
 
 pub returns-in_default : goal.returns-in_default
-returns-in_default c = let rest = c.in_default.rest in sym (no_test_past_kind _ _ _ (omega (arith, rest.1, rest.0.1, rest.0.0.1, rest.0.0.0.1, rest.0.0.0.0.1, rest.0.0.0.0.0.1)))
+returns-in_default c = let rest = c.in_default.in_default-own.rest in sym (no_test_past_kind _ _ _ (omega (arith, rest.1, rest.0.1, rest.0.0.1, rest.0.0.0.1, rest.0.0.0.0.1, rest.0.0.0.0.0.1)))

@@ -14,7 +14,9 @@ count_there : (c : Else-most_values-count) → c.count_of-count.result ≡ count
 count_there c = c.count_of-count.ensures
 
 few_there : (c : Else-most_values-count) → let bytes = c.args.bytes.now in count_of bytes ≤ most_values (kind_of bytes)
-few_there c = omega (arith, most_there c.before, count_there c)
+few_there c =
+    let most_there_here : c.most_values.result ≡ most_values (kind_of c.args.bytes.now) = c.most_values.ensures ∙ ap most_values c.kind_of.ensures in
+    omega (arith, most_there_here, count_there c)
 
 pub returns-then-most_values-count : goal.returns-then-most_values-count
 returns-then-most_values-count c = c.refused.ensures ∙ sym (too_many_values _ _ _ (omega (arith, most_there (goal.at.returns-then-most_values-count c).After-most_values, c.count_of-count.ensures)))

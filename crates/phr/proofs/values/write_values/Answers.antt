@@ -30,7 +30,7 @@ loop-i-smaller c = omega arith
 
 pub loop-i-preserved : goal.loop-i-preserved
 loop-i-preserved c =
-    (omega arith, c.write_value.auto.0 ∙ c.loop-i.invariant.1, values_one_more_written c.args.place c.args.values.now c.args.buffer.now c.requires c.loop-i.i (omega arith) c.loop-i.invariant.2 (loaded_value _ c.write_value-arg-in-loop-i-1.given) c.write_value.ensures)
+    (omega arith, c.write_value.auto.buffer ∙ c.loop-i.invariant.1, values_one_more_written c.args.place c.args.values.now c.args.buffer.now c.requires c.loop-i.i (omega arith) c.loop-i.invariant.2 (loaded_value _ c.write_value-arg-in-loop-i-1.given) c.write_value.ensures)
 
 pub shape_of-buffer : goal.shape_of-buffer
 shape_of-buffer c = omega arith
