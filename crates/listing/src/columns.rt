@@ -136,5 +136,6 @@ pub(crate) fn put(text: &mut [u8], at: usize, bytes: &[u8]) -> usize
     requires { at + length bytes.now ≤ length text.old }
     ensures { Appended bytes.now text.old at text.new result }
 {
-    at + bytes::copy(bytes, &mut text[at..])
+    copy(bytes, &mut text[at..]);
+    at + bytes.len()
 }
