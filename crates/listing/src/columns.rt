@@ -7,6 +7,7 @@ ghost use Rattle.decimal.specs.Decimal.{decimal};
 ghost use Rattle.variances.specs.Answers.{allan_fraction_answer, time_fraction_answer, allan_deviation_answer, time_deviation_answer};
 ghost use Rattle.listing.specs.Columns.{told_or, fraction_column, count_column, deviation_column, alpha_column};
 
+use crate::copy;
 use noise::{Noise, NoiseAnswer};
 use sums::SumAnswer;
 use variances::{DeviationAnswer, FractionAnswer};

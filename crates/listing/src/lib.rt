@@ -7,7 +7,7 @@ mod columns;
 mod lines;
 mod samples;
 
-ghost use Rattle.std.specs.Prelude.{◌≡◌, ◌^◌, ◌||◌, ltb, length};
+ghost use Rattle.std.specs.Prelude.{◌≡◌, ◌++◌, ◌≤◌, ◌^◌, ◌||◌, ltb, length, drop};
 ghost use Rattle.laws.specs.Lists.{written};
 ghost use Rattle.record.specs.Answers.{count_answer, buffer_left};
 ghost use Rattle.listing.specs.Sheet.{record_text, total_line, text_refusal, text_answer, total_refusal};
