@@ -29,7 +29,7 @@ use Rattle.acceptance.specs.Calls.{Starts, Samples, Gaps, Reports, Trace, Alike,
 -- ---- one call, by its contract alone
 
 pub start_answers : {x : Meter} {m : ℕ} {ring : List ℤ} {z : MeterAnswer} → Starts x m ring z → z ≡ start_answer x m ring
-start_answers (by_contract κs place name allowed) = allowed
+start_answers (by_contract κs place allowed) = allowed
 
 pub sample_answers : {x : Meter} {ring : List ℤ} {v : ℤ} {z : MeterAnswer} {left : List ℤ} → Samples x ring v z left →
     (z ≡ sample_answer x ring v) × (left ≡ ring_left x ring v)

@@ -51,7 +51,7 @@ part_left_length x c ring v inside = left_length x (channel_part c ring) v ∙ p
 -- ---- one call on a channel, by its contract alone
 
 pub start_on : {x : Meter} {c m : ℕ} {ring : List ℤ} {z : MeterAnswer} → ChannelStarts x c m ring z → z ≡ channel_start_answer x c m ring
-start_on (Channels.by_contract κs place name allowed) = allowed
+start_on (Channels.by_contract κs place allowed) = allowed
 
 pub sample_on : {x : Meter} {c : ℕ} {ring left : List ℤ} {v : ℤ} {z : MeterAnswer} → ChannelSamples x c ring v z left →
     (z ≡ channel_sample_answer x c ring v) × (left ≡ channel_ring_left x c ring v)
@@ -68,7 +68,7 @@ report_on (Channels.by_contract κs allowed) = allowed
 module _ {x : Meter} {c : ℕ} (inside : c ≤ 15) where
   pub starts_on_part : {m : ℕ} {ring : List ℤ} {z : MeterAnswer} → ChannelStarts x c m ring z → Starts x m (channel_part c ring) z
   unfolding channel_start_answer
-  starts_on_part (Channels.by_contract κs place name allowed) = Calls.by_contract κs place name (allowed ∙ choice_true _ _ (is_channel_lem inside))
+  starts_on_part (Channels.by_contract κs place allowed) = Calls.by_contract κs place (allowed ∙ choice_true _ _ (is_channel_lem inside))
 
   pub samples_on_part : {ring left : List ℤ} {v : ℤ} {z : MeterAnswer} → ChannelSamples x c ring v z left →
       Samples x (channel_part c ring) v z (channel_part c left)
@@ -239,7 +239,7 @@ seen_from_channel {x = x} {h = h} {past} {m} inside (Channels.sampled_elsewhere 
 
 pub bank_starts_on : {b : Bank} {c m : ℕ} {ring : List ℤ} {z : BankAnswer} → BankStarts b c m ring z → z ≡ bank_answer b c (channel_start_answer (meter_of b c) c m ring)
 unfolding bank_start_answer
-bank_starts_on (Channels.by_contract κs place name allowed) = allowed
+bank_starts_on (Channels.by_contract κs place allowed) = allowed
 
 pub bank_samples_on : {b : Bank} {c : ℕ} {ring left : List ℤ} {v : ℤ} {z : BankAnswer} → BankSamples b c ring v z left →
     (z ≡ bank_answer b c (channel_sample_answer (meter_of b c) c ring v)) × (left ≡ channel_ring_left (meter_of b c) c ring v)
@@ -253,7 +253,7 @@ bank_gaps_on (Channels.by_contract κs allowed) = allowed
 -- the call on the channel, which the contract of the channel's function allows
 start_held : {b : Bank} {c m : ℕ} {ring : List ℤ} {z : BankAnswer} → BankStarts b c m ring z →
     ChannelStarts (meter_of b c) c m ring (channel_start_answer (meter_of b c) c m ring)
-start_held (Channels.by_contract κs place name allowed) = Channels.by_contract κs place name refl
+start_held (Channels.by_contract κs place allowed) = Channels.by_contract κs place refl
 
 pub sample_held : {b : Bank} {c : ℕ} {ring left : List ℤ} {v : ℤ} {z : BankAnswer} → BankSamples b c ring v z left →
     ChannelSamples (meter_of b c) c ring v (channel_sample_answer (meter_of b c) c ring v) left

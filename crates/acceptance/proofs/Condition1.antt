@@ -13,7 +13,7 @@ use lib.IntN.{ℤ, pos}
 use lib.ListN.{length, get_or, take, get_or-append}
 use lib.Seq.{length-take-le, get_or-take}
 use Rattle.laws.specs.Lists.{at}
-use Rattle.laws.specs.Single.{Single, SingleSeen, Always, Settled}
+use Rattle.laws.specs.Single.{Single, Always, Settled}
 use Rattle.wide.proofs.Unique.{sum_single, difference_single, at_most_single, product_low_single, product_single, size_single, with_square_single, divided_single, root_single, square_at_most_single}
 use Rattle.wide.proofs.sum.Reads as wide-sum
 use Rattle.wide.proofs.sum.Kinds as wide-sum-kinds
@@ -122,7 +122,6 @@ use Rattle.channels.proofs.Bank.gap.Kinds as bank-gap-kinds
 use Rattle.channels.proofs.Bank.report.Reads as bank-report
 use Rattle.channels.proofs.Bank.report.Kinds as bank-report-kinds
 use Rattle.compare.proofs.Unique.{quieter_single, which_quieter_single}
-use Rattle.compare.specs.Quieter.{seen}
 use Rattle.channels.proofs.Unique.{channel_start_single, channel_sample_single, channel_gap_single, channel_report_single}
 use Rattle.channels.proofs.Unique as bank
 use Rattle.channels.specs.Shares.{meter_of}
@@ -273,13 +272,9 @@ modified_sum_settled = (modified_sum_single, λ κs args z w is. rw is (sum_noug
 pub which_quieter_settled : Settled 2 which-quieter-kinds.ps which-quieter-kinds.r which-quieter.Post (λ κs args z w. Refused z.number → z.which ≡ 0)
 which_quieter_settled = (which_quieter_single, λ κs args z w is. rw is (which_nought _ _ _))
 
--- the record that is handed back: where it lies and what it holds are one
-pub quieter_one_answer : SingleSeen 1 quieter-kinds.ps quieter-kinds.r quieter.Post (λ κs z. seen z)
-quieter_one_answer = quieter_single
-
--- and it is one of the two that were lent, or the empty part of the first
-pub quieter_one_of_two : Always 1 quieter-kinds.ps quieter-kinds.r quieter.Post (λ κs args z w. let first = args.0 in let second = args.1.0 in OneOf first second z)
-quieter_one_of_two κs args z w is = rw is (one_is_handed _ _ _ _)
+-- the record that is handed back is one of the two that were lent, or the empty part of the first
+pub quieter_settled : Settled 1 quieter-kinds.ps quieter-kinds.r quieter.Post (λ κs args z w. let first = args.0 in let second = args.1.0 in OneOf first second z)
+quieter_settled = (quieter_single, λ κs args z w is. rw is (one_is_handed _ _ _))
 
 -- ---- variances
 

@@ -125,7 +125,7 @@ pub handed_as_told : (m : ℕ) (first second : Bor (List ℤ)) (y : QuieterAnswe
     let z : Bor (List ℤ) = quieter_record m first second in
     (y.which ≡ 1 → z ≡ first) × (y.which ≡ 2 → z ≡ second) × (Refused y.number → (z.ref_ptr ≡ first.ref_ptr) × (z.now ≡ []))
 unfolding empty_part
-handed_as_told m first second y (Calls.by_contract κs place other name' another told) = (
+handed_as_told m first second y (Calls.by_contract κs place other told) = (
   λ is. sym (first_handed m first second told is),
   λ is. sym (second_handed m first second told is),
   λ refused.

@@ -141,7 +141,7 @@ unfolding sheet_from
 printed_is (Calls.closed {t} {buffer} (Calls.by_contract κs place name is) answered) =
     ap₂ (λ (n : ℕ) (left : List ℕ). take n left) (ap (λ (z : CountAnswer). z.count) is.0) is.1
     ∙ total_written t buffer (sym (ap (λ (z : CountAnswer). z.number) is.0) ∙ answered)
-printed_is (Calls.next {t} {bytes} {buffer} {files} (Calls.by_contract κs place other name another is) answered more) =
+printed_is (Calls.next {t} {bytes} {buffer} {files} (Calls.by_contract κs place other name is) answered more) =
     let here = sym (ap (λ (z : SheetAnswer). z.number) is.0) ∙ answered in
     let text = ap₂ (λ (n : ℕ) (left : List ℕ). take n left) (ap (λ (z : SheetAnswer). z.length) is.0) is.1 ∙ text_written bytes t buffer here in
     let totals = ap (λ (z : SheetAnswer). z.totals) is.0 ∙ totals_handed_on bytes t buffer here in

@@ -1,7 +1,7 @@
 -- What a sequence of the meter's calls is: each call is given the meter as the call before gave it back, is lent its own ring, and ends as the
 -- function's own contract allows. What a comparison of two records is. And what the calls of a sheet are: each is given the totals as the call before gave them back.
 use Rattle.std.specs.Prelude.{◌≡◌, List, [], ◌∷◌, ◌++◌, ℕ, ◌<◌, ℤ, pos, ◌+ℤ◌, ◌*ℤ◌, length, take}
-use Rattle.std.specs.Borrow.{GName, MutBor}
+use Rattle.std.specs.Borrow.{GName, Bor, MutBor}
 use contract.Lifetimes.{Lfts}
 use Rattle.laws.specs.Lists.{at}
 use Rattle.laws.specs.Single.{Allows}
@@ -30,19 +30,23 @@ use Rattle.acceptance.specs.Noughts.{Refused}
 
 -- ---- one call
 
--- a ring that is lent, wherever it lies
-abbrev pub lent : ℕ × ℕ → GName → List ℤ → MutBor (List ℤ)
-lent place name ring = record { ref_ptr = place; ghost_name = name; now = ring }
+-- a ring that is lent to be read, wherever it lies
+abbrev pub lent : ℕ × ℕ → List ℤ → Bor (List ℤ)
+lent place ring = record { ref_ptr = place; now = ring }
+
+-- and one that is lent to be written
+abbrev pub lent_to_write : ℕ × ℕ → GName → List ℤ → MutBor (List ℤ)
+lent_to_write place name ring = record { ref_ptr = place; ghost_name = name; now = ring }
 
 -- a start of meter x at factor m, lent a ring, may answer z
 pub data Starts (x : Meter) (m : ℕ) (ring : List ℤ) (z : MeterAnswer) : Type 0 where
-  by_contract : (κs : Lfts 1) (place : ℕ × ℕ) (name : GName) →
-      Allows 1 start-kinds.ps start-kinds.r start.Post κs (x, (m, (lent place name ring, tt))) z (tt, (tt, (tt, tt))) → Starts x m ring z
+  by_contract : (κs : Lfts 1) (place : ℕ × ℕ) →
+      Allows 1 start-kinds.ps start-kinds.r start.Post κs (x, (m, (lent place ring, tt))) z (tt, (tt, (tt, tt))) → Starts x m ring z
 
 -- a sample call of meter x with sample v, lent a ring, may answer z and leave the ring as `left`
 pub data Samples (x : Meter) (ring : List ℤ) (v : ℤ) (z : MeterAnswer) (left : List ℤ) : Type 0 where
   by_contract : (κs : Lfts 1) (place : ℕ × ℕ) (name : GName) →
-      Allows 1 sample-kinds.ps sample-kinds.r sample.Post κs (x, (lent place name ring, (v, tt))) z (tt, (left, (tt, tt))) → Samples x ring v z left
+      Allows 1 sample-kinds.ps sample-kinds.r sample.Post κs (x, (lent_to_write place name ring, (v, tt))) z (tt, (left, (tt, tt))) → Samples x ring v z left
 
 -- a gap call of meter x may answer z
 pub data Gaps (x : Meter) (z : MeterAnswer) : Type 0 where
@@ -98,25 +102,29 @@ pub data Alike : List (List ℤ) → List (List ℤ) → Type 0 where
 
 -- with two records, wherever they lie, it may answer z
 pub data Compares (xs ys : List ℤ) (m : ℕ) (z : QuieterAnswer) : Type 0 where
-  by_contract : (κs : Lfts 2) (place other : ℕ × ℕ) (name another : GName) →
-      Allows 2 which-quieter-kinds.ps which-quieter-kinds.r which-quieter.Post κs (lent place name xs, (lent other another ys, (m, tt))) z (tt, (tt, (tt, tt))) → Compares xs ys m z
+  by_contract : (κs : Lfts 2) (place other : ℕ × ℕ) →
+      Allows 2 which-quieter-kinds.ps which-quieter-kinds.r which-quieter.Post κs (lent place xs, (lent other ys, (m, tt))) z (tt, (tt, (tt, tt))) → Compares xs ys m z
 
 -- ---- the calls of a sheet
 
--- bytes that are lent, wherever they lie
-abbrev pub lent_bytes : ℕ × ℕ → GName → List ℕ → MutBor (List ℕ)
-lent_bytes place name bytes = record { ref_ptr = place; ghost_name = name; now = bytes }
+-- bytes that are lent to be read, wherever they lie
+abbrev pub lent_bytes : ℕ × ℕ → List ℕ → Bor (List ℕ)
+lent_bytes place bytes = record { ref_ptr = place; now = bytes }
+
+-- and bytes that are lent to be written
+abbrev pub lent_bytes_to_write : ℕ × ℕ → GName → List ℕ → MutBor (List ℕ)
+lent_bytes_to_write place name bytes = record { ref_ptr = place; ghost_name = name; now = bytes }
 
 -- a call of sheet_record with a file's bytes and totals, lent a buffer, may answer z and leave the buffer as `left`
 pub data PrintsRecord (bytes : List ℕ) (t : Totals) (buffer : List ℕ) (z : SheetAnswer) (left : List ℕ) : Type 0 where
-  by_contract : (κs : Lfts 2) (place other : ℕ × ℕ) (name another : GName) →
-      Allows 2 sheet-record-kinds.ps sheet-record-kinds.r sheet-record.Post κs (lent_bytes place name bytes, (t, (lent_bytes other another buffer, tt))) z (tt, (tt, (left, tt))) →
+  by_contract : (κs : Lfts 2) (place other : ℕ × ℕ) (name : GName) →
+      Allows 2 sheet-record-kinds.ps sheet-record-kinds.r sheet-record.Post κs (lent_bytes place bytes, (t, (lent_bytes_to_write other name buffer, tt))) z (tt, (tt, (left, tt))) →
       PrintsRecord bytes t buffer z left
 
 -- a call of sheet_total with totals, lent a buffer, may answer z and leave the buffer as `left`
 pub data PrintsTotal (t : Totals) (buffer : List ℕ) (z : CountAnswer) (left : List ℕ) : Type 0 where
   by_contract : (κs : Lfts 1) (place : ℕ × ℕ) (name : GName) →
-      Allows 1 sheet-total-kinds.ps sheet-total-kinds.r sheet-total.Post κs (t, (lent_bytes place name buffer, tt)) z (tt, (left, tt)) → PrintsTotal t buffer z left
+      Allows 1 sheet-total-kinds.ps sheet-total-kinds.r sheet-total.Post κs (t, (lent_bytes_to_write place name buffer, tt)) z (tt, (left, tt)) → PrintsTotal t buffer z left
 
 -- Printed t files text: from totals t on, a call for each file in turn, each answered, and one for the closing line wrote these texts one after the other
 pub data Printed : Totals → List (List ℕ) → List ℕ → Type 0 where

@@ -26,17 +26,17 @@ use Rattle.channels.proofs.Bank.gap.Kinds as bank-gap-kinds
 use Rattle.channels.proofs.Bank.report.Reads as bank-report
 use Rattle.channels.proofs.Bank.report.Kinds as bank-report-kinds
 use Rattle.acceptance.specs.Noughts.{Refused}
-use Rattle.acceptance.specs.Calls.{lent}
+use Rattle.acceptance.specs.Calls.{lent, lent_to_write}
 
 -- ---- one call of one meter on channel c, the ring lent whole
 
 pub data ChannelStarts (x : Meter) (c m : ℕ) (ring : List ℤ) (z : MeterAnswer) : Type 0 where
-  by_contract : (κs : Lfts 1) (place : ℕ × ℕ) (name : GName) →
-      Allows 1 start-kinds.ps start-kinds.r start.Post κs (x, (c, (m, (lent place name ring, tt)))) z (tt, (tt, (tt, (tt, tt)))) → ChannelStarts x c m ring z
+  by_contract : (κs : Lfts 1) (place : ℕ × ℕ) →
+      Allows 1 start-kinds.ps start-kinds.r start.Post κs (x, (c, (m, (lent place ring, tt)))) z (tt, (tt, (tt, (tt, tt)))) → ChannelStarts x c m ring z
 
 pub data ChannelSamples (x : Meter) (c : ℕ) (ring : List ℤ) (v : ℤ) (z : MeterAnswer) (left : List ℤ) : Type 0 where
   by_contract : (κs : Lfts 1) (place : ℕ × ℕ) (name : GName) →
-      Allows 1 sample-kinds.ps sample-kinds.r sample.Post κs (x, (c, (lent place name ring, (v, tt)))) z (tt, (tt, (left, (tt, tt)))) → ChannelSamples x c ring v z left
+      Allows 1 sample-kinds.ps sample-kinds.r sample.Post κs (x, (c, (lent_to_write place name ring, (v, tt)))) z (tt, (tt, (left, (tt, tt)))) → ChannelSamples x c ring v z left
 
 pub data ChannelGaps (x : Meter) (c : ℕ) (z : MeterAnswer) : Type 0 where
   by_contract : (κs : Lfts 0) → Allows 0 gap_kinds.ps gap_kinds.r gap.Post κs (x, (c, tt)) z (tt, (tt, tt)) → ChannelGaps x c z
@@ -47,12 +47,12 @@ pub data ChannelReports (x : Meter) (c : ℕ) (z : Report) : Type 0 where
 -- ---- one call of a bank
 
 pub data BankStarts (b : Bank) (c m : ℕ) (ring : List ℤ) (z : BankAnswer) : Type 0 where
-  by_contract : (κs : Lfts 1) (place : ℕ × ℕ) (name : GName) →
-      Allows 1 bank-start-kinds.ps bank-start-kinds.r bank-start.Post κs (b, (c, (m, (lent place name ring, tt)))) z (tt, (tt, (tt, (tt, tt)))) → BankStarts b c m ring z
+  by_contract : (κs : Lfts 1) (place : ℕ × ℕ) →
+      Allows 1 bank-start-kinds.ps bank-start-kinds.r bank-start.Post κs (b, (c, (m, (lent place ring, tt)))) z (tt, (tt, (tt, (tt, tt)))) → BankStarts b c m ring z
 
 pub data BankSamples (b : Bank) (c : ℕ) (ring : List ℤ) (v : ℤ) (z : BankAnswer) (left : List ℤ) : Type 0 where
   by_contract : (κs : Lfts 1) (place : ℕ × ℕ) (name : GName) →
-      Allows 1 bank-sample-kinds.ps bank-sample-kinds.r bank-sample.Post κs (b, (c, (lent place name ring, (v, tt)))) z (tt, (tt, (left, (tt, tt)))) → BankSamples b c ring v z left
+      Allows 1 bank-sample-kinds.ps bank-sample-kinds.r bank-sample.Post κs (b, (c, (lent_to_write place name ring, (v, tt)))) z (tt, (tt, (left, (tt, tt)))) → BankSamples b c ring v z left
 
 pub data BankGaps (b : Bank) (c : ℕ) (z : BankAnswer) : Type 0 where
   by_contract : (κs : Lfts 0) → Allows 0 bank-gap-kinds.ps bank-gap-kinds.r bank-gap.Post κs (b, (c, tt)) z (tt, (tt, tt)) → BankGaps b c z

@@ -107,10 +107,10 @@ digits_at_end n before {first = first} long e f =
     )
 
 -- bytes that are copied to the part of a buffer from a place on
-pub part_copied : (out before : List ℕ) (at : ℕ) {part : List ℕ} → part ≡ take (length out) out ++ drop (length out) (take (length before - at) (drop at before)) →
+pub part_copied : (out before : List ℕ) (at : ℕ) {part : List ℕ} → part ≡ out ++ drop (length out) (take (length before - at) (drop at before)) →
     take at before ++ (part ++ drop (length before - at) (drop at before)) ≡ take at before ++ (out ++ drop (length out) (drop at before))
 part_copied out before at e =
     let room = length before - at in
     let all = take_all room (drop at before) (omega (arith, length-drop at before)) in
     let none = drop_of_length-le (drop at before) {i = room} (omega (arith, length-drop at before)) in
-    rw (e, all, none, take-length out, append-nil)
+    rw (e, all, none, append-nil)

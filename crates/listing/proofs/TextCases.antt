@@ -42,8 +42,8 @@ module _ (bytes : List ℕ) where
 -- ---- text that is copied to the front of a buffer
 
 pub text_copied : {out before after : List ℕ} {end : ℕ} → Appended out before 0 after end → (buffer : List ℕ) {left : List ℕ} →
-    left ≡ take (length (take end after)) (take end after) ++ drop (length (take end after)) buffer → left ≡ written out buffer
-text_copied x buffer e = e ∙ rw ((all_appended x).1, take-length)
+    left ≡ take end after ++ drop (length (take end after)) buffer → left ≡ written out buffer
+text_copied x buffer e = e ∙ rw (all_appended x).1
 
 -- ---- 2, 6
 

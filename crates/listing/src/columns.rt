@@ -7,6 +7,7 @@ ghost use Rattle.decimal.specs.Decimal.{decimal};
 ghost use Rattle.variances.specs.Answers.{allan_fraction_answer, time_fraction_answer, allan_deviation_answer, time_deviation_answer};
 ghost use Rattle.listing.specs.Columns.{told_or, fraction_column, count_column, deviation_column, alpha_column};
 
+use crate::copy;
 use noise::{Noise, NoiseAnswer};
 use sums::SumAnswer;
 use variances::{DeviationAnswer, FractionAnswer};
@@ -136,5 +137,6 @@ pub(crate) fn put(text: &mut [u8], at: usize, bytes: &[u8]) -> usize
     requires { at + length bytes.now ≤ length text.old }
     ensures { Appended bytes.now text.old at text.new result }
 {
-    at + bytes::copy(bytes, &mut text[at..])
+    copy(bytes, &mut text[at..]);
+    at + bytes.len()
 }

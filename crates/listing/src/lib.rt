@@ -7,7 +7,7 @@ mod columns;
 mod lines;
 mod samples;
 
-ghost use Rattle.std.specs.Prelude.{◌≡◌, ◌^◌, ◌||◌, ltb, length};
+ghost use Rattle.std.specs.Prelude.{◌≡◌, ◌++◌, ◌≤◌, ◌^◌, ◌||◌, ltb, length, drop};
 ghost use Rattle.laws.specs.Lists.{written};
 ghost use Rattle.record.specs.Answers.{count_answer, buffer_left};
 ghost use Rattle.listing.specs.Sheet.{record_text, total_line, text_refusal, text_answer, total_refusal};
@@ -55,7 +55,7 @@ pub fn sheet_record(bytes: &[u8], totals: Totals, text: &mut [u8]) -> SheetAnswe
     if text.len() < end {
         return refused(record::NO_ROOM, totals);
     }
-    bytes::copy(&all[..end], text);
+    copy(&all[..end], text);
     SheetAnswer {
         number: 0,
         place: 0,
@@ -74,7 +74,7 @@ pub fn sheet_total(totals: Totals, text: &mut [u8]) -> CountAnswer
     if text.len() < end {
         return record::refused_count(record::NO_ROOM, 0);
     }
-    bytes::copy(&all[..end], text);
+    copy(&all[..end], text);
     CountAnswer {
         number: 0,
         place: 0,
@@ -102,4 +102,12 @@ fn refused(number: u64, totals: Totals) -> SheetAnswer
         length: 0,
         totals,
     }
+}
+
+// Bytes at the front of a buffer.
+pub(crate) fn copy(bytes: &[u8], buffer: &mut [u8])
+    requires { length bytes.now ≤ length buffer.old }
+    ensures { buffer.new ≡ bytes.now ++ drop (length bytes.now) buffer.old }
+{
+    buffer[..bytes.len()].copy_from_slice(bytes);
 }

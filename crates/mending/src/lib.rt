@@ -95,9 +95,17 @@ fn write(bytes: &[u8], end: usize, count: usize, buffer: &mut [u8])
     requires { (8 ≤ end) × (end ≤ length bytes.now) × (end ≤ length buffer.old) }
     ensures { buffer.new ≡ set (set (take end bytes.now ++ drop end buffer.old) 6 (count % 256)) 7 (count / 256 % 256) }
 {
-    bytes::copy(&bytes[..end], buffer);
+    copy(&bytes[..end], buffer);
     buffer[6] = (count % 256) as u8;
     buffer[7] = (count / 256 % 256) as u8;
+}
+
+// Bytes at the front of a buffer.
+fn copy(bytes: &[u8], buffer: &mut [u8])
+    requires { length bytes.now ≤ length buffer.old }
+    ensures { buffer.new ≡ bytes.now ++ drop (length bytes.now) buffer.old }
+{
+    buffer[..bytes.len()].copy_from_slice(bytes);
 }
 
 // Noughts beside a refusal.

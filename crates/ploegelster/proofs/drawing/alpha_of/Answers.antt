@@ -1,0 +1,24 @@
+-- `ploegelster::drawing::alpha_of` meets its contract: each arm is a line of the table.
+use mathlib.Core.Path.{sym, ap}
+use Rattle.noise.specs.Noise.{alpha_of}
+use Rattle.ploegelster.proofs.drawing.alpha_of.Goals as goal
+
+pub returns-in-WhitePhase : goal.returns-in-WhitePhase
+unfolding alpha_of
+returns-in-WhitePhase c = sym (ap alpha_of c.in-WhitePhase.is)
+
+pub returns-in-FlickerPhase : goal.returns-in-FlickerPhase
+unfolding alpha_of
+returns-in-FlickerPhase c = sym (ap alpha_of c.in-FlickerPhase.is)
+
+pub returns-in-WhiteFrequency : goal.returns-in-WhiteFrequency
+unfolding alpha_of
+returns-in-WhiteFrequency c = sym (ap alpha_of c.in-WhiteFrequency.is)
+
+pub returns-in-FlickerFrequency : goal.returns-in-FlickerFrequency
+unfolding alpha_of
+returns-in-FlickerFrequency c = sym (ap alpha_of c.in-FlickerFrequency.is)
+
+pub returns-in-RandomWalkFrequency : goal.returns-in-RandomWalkFrequency
+unfolding alpha_of
+returns-in-RandomWalkFrequency c = sym (ap alpha_of c.in-RandomWalkFrequency.is)
