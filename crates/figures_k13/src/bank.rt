@@ -3,6 +3,7 @@ use crate::print::{number, part, refusal, text};
 use crate::records;
 use channels::{Bank, CHANNELS};
 use meter::{Meter, Report};
+use std::io::Stdout;
 use wide::Wide;
 
 // How many entries sixteen channels need at factors up to 16.
@@ -10,12 +11,12 @@ const RING: usize = 768;
 // How many turns there are.
 const TURNS: usize = 200;
 
-pub(crate) fn figures() {
+pub(crate) fn figures(out: Stdout) {
     let mut samples = [0i64; 32768];
-    records::fill(&mut samples, records::SCATTERED);
+    records::scattered(&mut samples);
     let mut ring = [0i64; RING];
     let bank = fed(started(&ring), &samples, &mut ring);
-    reported(bank);
+    reported(out, bank);
 }
 
 // A bank of which every channel is started, channel c at factor c + 1; channel 16 is refused.
@@ -34,11 +35,9 @@ fn started(ring: &[i64; RING]) -> Bank {
     let mut now = Bank {
         meters: [nothing; 16],
     };
-    let mut c: u64 = 0;
-    while c <= CHANNELS as u64 {
+    for c in 0..CHANNELS as u64 + 1 {
         let answer = now.start(c, c + 1, lent);
         now = answer.bank;
-        c += 1;
     }
     now
 }
@@ -46,10 +45,8 @@ fn started(ring: &[i64; RING]) -> Bank {
 // The bank after all turns.
 fn fed(bank: Bank, samples: &[i64; 32768], ring: &mut [i64; RING]) -> Bank {
     let mut now = bank;
-    let mut i: usize = 0;
-    while i < TURNS {
+    for i in 0..TURNS {
         now = turned(now, samples[i], i as u64, ring);
-        i += 1;
     }
     now
 }
@@ -57,10 +54,8 @@ fn fed(bank: Bank, samples: &[i64; 32768], ring: &mut [i64; RING]) -> Bank {
 // The bank after one turn: each channel takes the sample.
 fn turned(bank: Bank, x: i64, turn: u64, ring: &mut [i64; RING]) -> Bank {
     let mut now = bank;
-    let mut c: u64 = 0;
-    while c < CHANNELS as u64 {
+    for c in 0..CHANNELS as u64 {
         now = stepped(now, c, x, turn, ring);
-        c += 1;
     }
     now
 }
@@ -80,26 +75,24 @@ fn stepped(bank: Bank, c: u64, x: i64, turn: u64, ring: &mut [i64; RING]) -> Ban
 }
 
 // A line for each channel, and for one above them.
-fn reported(bank: Bank) {
-    let mut c: u64 = 0;
-    while c <= CHANNELS as u64 {
-        of_channel(c, bank.report(c));
-        c += 1;
+fn reported(out: Stdout, bank: Bank) {
+    for c in 0..CHANNELS as u64 + 1 {
+        of_channel(out, c, bank.report(c));
     }
 }
 
 // One line: a channel's sums.
-fn of_channel(c: u64, report: Report) {
-    text(b"channel ");
-    number(c);
+fn of_channel(out: Stdout, c: u64, report: Report) {
+    text(out, b"channel ");
+    number(out, c);
     if report.number != 0 {
-        text(b": ");
-        refusal(report.number, report.place);
-        text(b"\n");
+        text(out, b": ");
+        refusal(out, report.number, report.place);
+        text(out, b"\n");
         return;
     }
-    text(b":");
-    part(report.allan);
-    part(report.modified);
-    text(b"\n");
+    text(out, b":");
+    part(out, report.allan);
+    part(out, report.modified);
+    text(out, b"\n");
 }
