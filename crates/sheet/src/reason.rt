@@ -1,0 +1,39 @@
+// What the system says of an error.
+use std::fmt::Write;
+use std::{fmt, io};
+
+// Room for the system's words; its longest have some fifty bytes.
+const ROOM: usize = 128;
+
+// Text that is collected, and how many bytes it has. A byte that has no room is left out.
+#[derive(Drop)]
+struct Words {
+    bytes: [u8; ROOM],
+    length: usize,
+}
+
+impl Write for Words {
+    fn write_str(&mut self, s: &str) -> fmt::Result {
+        for b in s.as_bytes() {
+            if self.length < ROOM {
+                self.bytes[self.length] = *b;
+                self.length += 1;
+            }
+        }
+        Ok(())
+    }
+}
+
+// An error in the system's words, to standard error. Its number, which is told behind them, is left out.
+pub(crate) fn told(rt: &HostRuntime, error: io::Error) {
+    let mut words = Words {
+        bytes: [0; ROOM],
+        length: 0,
+    };
+    let _ = write!(words, "{error}");
+    let said = str::from_utf8(&words.bytes[..words.length]).unwrap_or("");
+    let reason = said
+        .split_once(" (os error ")
+        .map_or(said, |(before, _)| before);
+    let _ = rt.stderr().write_all(reason.as_bytes());
+}
