@@ -49,7 +49,8 @@ fn halves(out: Stdout) {
     three(out, b"0, -0.5, 0", &[0.0, -0.5, 0.0]);
     three(out, b"1.5, 0, 0", &[1.5, 0.0, 0.0]);
     three(out, b"0, -2.5, 0", &[0.0, -2.5, 0.0]);
-    three(out, 
+    three(
+        out,
         b"0, 0, 0.49999999999999994",
         &[0.0, 0.0, 0.49999999999999994],
     );
@@ -62,11 +63,13 @@ fn fractions(out: Stdout) {
     three(out, b"0, -2^40 + 0.5, 0", &[0.0, -1099511627775.5, 0.0]);
     three(out, b"2^40 + 0.5, 0, 0", &[1099511627776.5, 0.0, 0.0]);
     three(out, b"0, -2^40 - 0.5, 0", &[0.0, -1099511627776.5, 0.0]);
-    three(out, 
+    three(
+        out,
         b"0, 0, 2^40 + 2^-12",
         &[0.0, 0.0, 1099511627776.000244140625],
     );
-    three(out, 
+    three(
+        out,
         b"0, 0, 2^40 - 2^-13",
         &[0.0, 0.0, 1099511627775.9998779296875],
     );
@@ -80,23 +83,37 @@ fn not_finite(out: Stdout) {
     three(out, b"0, 0, not a number", &[0.0, 0.0, 0.0 / 0.0]);
     three(out, b"0, 2^-1074, 0", &[0.0, 5e-324, 0.0]);
     three(out, b"0, -2^-1074, 0", &[0.0, -5e-324, 0.0]);
-    three(out, b"2^1024 - 2^971, 0, 0", &[1.7976931348623157e308, 0.0, 0.0]);
+    three(
+        out,
+        b"2^1024 - 2^971, 0, 0",
+        &[1.7976931348623157e308, 0.0, 0.0],
+    );
 }
 
 // The lowest index decides, whichever its number.
 fn by_index(out: Stdout) {
     let no_number = 0.0 / 0.0;
-    three(out, 
+    three(
+        out,
         b"0, not a number, 2^40 + 1",
         &[0.0, no_number, 1099511627777.0],
     );
-    three(out, 
+    three(
+        out,
         b"0, 2^40 + 1, not a number",
         &[0.0, 1099511627777.0, no_number],
     );
     three(out, b"0.5, not a number, 0", &[0.5, no_number, 0.0]);
-    three(out, b"infinite, not a number, 0.5", &[1.0 / 0.0, 0.0 / 0.0, 0.5]);
-    three(out, b"not a number, infinite, 0", &[0.0 / 0.0, 1.0 / 0.0, 0.0]);
+    three(
+        out,
+        b"infinite, not a number, 0.5",
+        &[1.0 / 0.0, 0.0 / 0.0, 0.5],
+    );
+    three(
+        out,
+        b"not a number, infinite, 0",
+        &[0.0 / 0.0, 1.0 / 0.0, 0.0],
+    );
 }
 
 // One line: three readings in words, their sums at m = 1, and the buffer, whose fourth entry is past the output.
@@ -133,7 +150,10 @@ fn size(out: Stdout, row: [usize; 3]) {
     heading(out, m, count, room);
     let squares = SQUARES;
     let mut buffer = [7i64; 9];
-    sums(out, readings::float_sums(&squares[..count], m as u64, &mut buffer[..room]));
+    sums(
+        out,
+        readings::float_sums(&squares[..count], m as u64, &mut buffer[..room]),
+    );
     text(out, b"\n");
 }
 
@@ -155,7 +175,10 @@ fn too_many(out: Stdout) {
     text(out, b"float readings, 32769 noughts, m = 1: ");
     sums(out, readings::float_sums(&noughts, 1, &mut buffer));
     text(out, b"\nfloat readings, 32768 noughts, m = 10922: ");
-    sums(out, readings::float_sums(&noughts[..32768], 10922, &mut buffer));
+    sums(
+        out,
+        readings::float_sums(&noughts[..32768], 10922, &mut buffer),
+    );
     text(out, b"\n");
 }
 

@@ -16,9 +16,14 @@ pub(crate) fn figures(out: Stdout) {
 // Products and sums that pass one half, and the sum that passes both.
 fn products_and_sums(out: Stdout) {
     line(out, b"(2^64 - 1) squared", wide::product(MOST, MOST));
-    line(out, b"2^41 squared", wide::product(2199023255552, 2199023255552));
+    line(
+        out,
+        b"2^41 squared",
+        wide::product(2199023255552, 2199023255552),
+    );
     line(out, b"2^64 - 1 and 1", wide::sum(low(MOST), low(1)));
-    line(out, 
+    line(
+        out,
         b"2^128 - 1 and 1",
         wide::sum(Wide { hi: MOST, lo: MOST }, low(1)),
     );
@@ -26,7 +31,8 @@ fn products_and_sums(out: Stdout) {
 
 // Quotients, and the one that is not defined.
 fn quotients(out: Stdout) {
-    quotient(out, 
+    quotient(
+        out,
         b"2^126 by 7",
         Wide {
             hi: 4611686018427387904,
@@ -34,20 +40,27 @@ fn quotients(out: Stdout) {
         },
         7,
     );
-    quotient(out, b"2^128 - 1 by 2^64 - 1", Wide { hi: MOST, lo: MOST }, MOST);
+    quotient(
+        out,
+        b"2^128 - 1 by 2^64 - 1",
+        Wide { hi: MOST, lo: MOST },
+        MOST,
+    );
     quotient(out, b"5 by 0", low(5), 0);
 }
 
 // Roots at the limit of a sum and at the end of both halves.
 fn roots(out: Stdout) {
-    root(out, 
+    root(
+        out,
         b"2^126 - 1",
         Wide {
             hi: 4611686018427387903,
             lo: MOST,
         },
     );
-    root(out, 
+    root(
+        out,
         b"2^126",
         Wide {
             hi: 4611686018427387904,
@@ -59,11 +72,13 @@ fn roots(out: Stdout) {
 
 // The rules' deviation passes its test, and one more does not.
 fn orders(out: Stdout) {
-    order(out, 
+    order(
+        out,
         b"1482910 squared times 8, 16 times 2^40",
         wide::square_at_most(1482910, 8, low(16)),
     );
-    order(out, 
+    order(
+        out,
         b"1482911 squared times 8, 16 times 2^40",
         wide::square_at_most(1482911, 8, low(16)),
     );

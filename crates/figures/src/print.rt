@@ -31,7 +31,7 @@ pub(crate) fn values(out: Stdout, row: &[i64]) {
 
 // A double, exactly: its 64 bits in 16 hexadecimal digits. What is not a number has many patterns, and is called so.
 pub(crate) fn double(out: Stdout, x: f64) {
-    if x != x {
+    if x.is_nan() {
         text(out, b"not a number");
         return;
     }

@@ -1,7 +1,7 @@
 // What a record file holds, as one line to standard output. Every figure is the library's, and every answer is tested before it is passed on.
 use crate::line::{ROOM, byte, millionths, number, signed, text, whole, written};
-use crate::{errors, trouble};
 use crate::words::{refused, refused_at};
+use crate::{errors, trouble};
 use sums::SumAnswer;
 use variances::DeviationAnswer;
 

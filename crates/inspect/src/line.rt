@@ -23,10 +23,8 @@ pub(crate) fn byte(line: &mut [u8; ROOM], at: usize, b: u8) -> usize {
 // Bytes. A control byte, which a file's name may have, becomes a question mark, so that a line stays one line.
 pub(crate) fn text(line: &mut [u8; ROOM], at: usize, bytes: &[u8]) -> usize {
     let mut end = at;
-    let mut i: usize = 0;
-    while i < bytes.len() {
-        end = byte(line, end, shown(bytes[i]));
-        i += 1;
+    for b in bytes {
+        end = byte(line, end, shown(*b));
     }
     end
 }

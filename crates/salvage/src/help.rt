@@ -7,9 +7,7 @@ pub(crate) fn asked(word: &[u8]) -> bool {
 
 // To standard error, where no file is named or more than one.
 pub(crate) fn usage(rt: &HostRuntime) {
-    let _ = rt.stderr().write_all(
-        b"usage: salvage FILE >MENDED (salvage --help says more)\n",
-    );
+    let _ = rt.stderr().write_all(b"usage: salvage FILE >MENDED (salvage --help says more)\n");
 }
 
 // To standard output.

@@ -1,4 +1,6 @@
 // What the system says of an error.
+ghost use Rattle.std.specs.Prelude.{◌≤◌};
+
 use std::fmt::Write;
 use std::{fmt, io};
 
@@ -9,15 +11,16 @@ const ROOM: usize = 128;
 #[derive(Drop)]
 struct Words {
     bytes: [u8; ROOM],
-    length: usize,
+    count: usize,
+    ghost inside: { count ≤ 128 },
 }
 
 impl Write for Words {
     fn write_str(&mut self, s: &str) -> fmt::Result {
         for b in s.as_bytes() {
-            if self.length < ROOM {
-                self.bytes[self.length] = *b;
-                self.length += 1;
+            if self.count < ROOM {
+                self.bytes[self.count] = *b;
+                self.count += 1;
             }
         }
         Ok(())
@@ -28,10 +31,10 @@ impl Write for Words {
 pub(crate) fn told(rt: &HostRuntime, error: io::Error) {
     let mut words = Words {
         bytes: [0; ROOM],
-        length: 0,
+        count: 0,
     };
     let _ = write!(words, "{error}");
-    let said = str::from_utf8(&words.bytes[..words.length]).unwrap_or("");
+    let said = str::from_utf8(&words.bytes[..words.count]).unwrap_or("");
     let reason = said
         .split_once(" (os error ")
         .map_or(said, |(before, _)| before);

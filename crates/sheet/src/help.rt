@@ -2,9 +2,9 @@
 
 // To standard error, where no file is named.
 pub(crate) fn usage(rt: &HostRuntime) {
-    let _ = rt.stderr().write_all(
-        b"usage: sheet FILE.. (sheet --help says more)\n",
-    );
+    let _ = rt
+        .stderr()
+        .write_all(b"usage: sheet FILE.. (sheet --help says more)\n");
 }
 
 // To standard output.
