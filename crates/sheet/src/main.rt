@@ -45,7 +45,7 @@ fn main(rt: HostRuntime) {
     close(&rt, totals);
 }
 
-// How many arguments there are, the program's own name among them. One that is there has no room in no bytes, or is empty.
+// How many arguments there are, the program's own name among them. Asked for with no room at all, only one that is missing is told as missing.
 fn arguments(rt: &HostRuntime) -> usize {
     for i in 0..usize::MAX {
         if let Err(FillError::NotPresent) = rt.arg(i, &mut []) {
