@@ -3,7 +3,7 @@
 use mathlib.Core.Path.{◌≡◌, refl, sym, ap, subst, ◌∙◌}
 use mathlib.Core.Bool.{Bool, true, false, cond}
 use mathlib.Core.List.{List, [], ◌∷◌, ◌++◌}
-use mathlib.Core.Logic.{◌⊎◌, inl, inr}
+use mathlib.Core.Logic.{inl, inr}
 use Prim.Native.Nat.{ℕ, ◌+◌, ◌-◌, ◌*◌, ◌/◌, ◌%◌, ◌≤◌, ◌<◌}
 use native.Mathlib.Decide.{dec_le, dec_lt}
 use native.Mathlib.Omega.{arith}
@@ -13,12 +13,12 @@ use lib.IntN.{ℤ, pos}
 use lib.ListN.{length, get_or, length-set}
 use Rattle.laws.specs.Lists.{at}
 use Rattle.laws.proofs.Tests.{choice_true, choice_false}
-use Rattle.meter.specs.Meter.{ring_with, started}
+use Rattle.meter.specs.Meter.{ring_with}
 use Rattle.meter.specs.Answers.{start_answer, sample_refusal, sample_answer, ring_left, gap_answer, report_answer}
 use Rattle.meter.specs.declared.Meter.{Meter}
 use Rattle.meter.specs.declared.MeterAnswer.{MeterAnswer}
 use Rattle.meter.specs.declared.Report.{Report}
-use Rattle.channels.specs.Shares.{is_channel, share, channel_part, with_part, meter_of, with_meter}
+use Rattle.channels.specs.Shares.{is_channel, channel_part, with_part, meter_of, with_meter}
 use Rattle.channels.specs.Answers.{no_channel, channel_start_answer, channel_sample_answer, channel_ring_left, channel_gap_answer, channel_report_answer, bank_answer, bank_start_answer, bank_sample_answer, bank_ring_left, bank_gap_answer, bank_report_answer}
 use Rattle.channels.specs.declared.Bank.{Bank}
 use Rattle.channels.specs.declared.BankAnswer.{BankAnswer}

@@ -1,5 +1,5 @@
 -- The grounds of the quieter's refusals, and of the calls on a channel: 11, then the rows of the meter's own call.
-use mathlib.Core.Path.{◌≡◌, refl, sym, ap, ◌∙◌}
+use mathlib.Core.Path.{◌≡◌, refl}
 use mathlib.Core.Bool.{Bool, true, false, cond}
 use mathlib.Core.List.{List}
 use Prim.Native.Nat.{ℕ, ◌+◌, ◌*◌, ◌≤◌, ◌<◌}
@@ -8,23 +8,20 @@ use native.Mathlib.Omega.{arith}
 use borrow.Author.Tests.{eqb-true}
 use lib.Dec.{eqb}
 use lib.IntN.{ℤ}
-use Rattle.laws.proofs.Tests.{choice_true, choice_false}
-use Rattle.record.specs.Refusals.{record_refusal, ◌then◌}
-use Rattle.sums.specs.Answers.{allan_demand, no_part}
+use Rattle.record.specs.Refusals.{record_refusal}
+use Rattle.sums.specs.Answers.{allan_demand}
 use Rattle.compare.specs.Quieter.{quieter_refusal, quieter_answer}
 use Rattle.compare.specs.declared.QuieterAnswer.{QuieterAnswer}
-use Rattle.meter.specs.Answers.{start_answer, sample_answer, gap_answer, report_answer}
 use Rattle.meter.specs.declared.Meter.{Meter}
 use Rattle.meter.specs.declared.MeterAnswer.{MeterAnswer}
 use Rattle.meter.specs.declared.Report.{Report}
 use Rattle.channels.specs.Shares.{is_channel, channel_part}
 use Rattle.channels.specs.Answers.{no_channel, channel_start_answer, channel_sample_answer, channel_gap_answer, channel_report_answer, bank_answer}
 use Rattle.channels.specs.declared.Bank.{Bank}
-use Rattle.channels.specs.declared.BankAnswer.{BankAnswer}
 use Rattle.channels.proofs.ChannelLaws.{is_channel_lem, is_no_channel}
 use Rattle.acceptance.specs.Grounds.{NoRow, Grounded, OfRecord, OfQuieter, OfStart, OfSample, OfGap, OfReport, OfChannel, above, own}
 use Rattle.acceptance.specs.Grounds
-use Rattle.acceptance.proofs.Grounding.{Agrees, Stands, Decided, decide_after, decided_by, stands_first, stands_later, rowless_none, none_rowless, grounded_answer}
+use Rattle.acceptance.proofs.Grounding.{Agrees, Stands, decide_after, decided_by, stands_first, stands_later, rowless_none, none_rowless, grounded_answer}
 use Rattle.acceptance.proofs.RecordGrounds.{record_agrees}
 use Rattle.acceptance.proofs.MeterGrounds.{start_grounded, sample_grounded, gap_grounded, report_grounded}
 

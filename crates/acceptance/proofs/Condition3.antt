@@ -37,12 +37,11 @@ use Rattle.acceptance.specs.Calls.{Starts, Samples, Gaps, Reports, Trace, Call, 
 use Rattle.acceptance.proofs.AnyCalls.{started_factor, reports_published, takes_every_start, takes_every_sample, takes_every_gap, accepted_fresh, accepted_worked, accepted_apart, two_gaps_one, early_gap_changes_nothing, report_answers, trace_runs, alike_totals, alike_streams_agree, refused_start_changes_nothing, refused_sample_changes_nothing, refused_gap_changes_nothing}
 use Rattle.acceptance.proofs.LatestOnly.{only_read_slots_matter, same_latest_same_answers, same_samples_same_answers}
 use Rattle.channels.specs.Shares.{channel_part, meter_of}
-use Rattle.channels.specs.Answers.{channel_start_answer, channel_sample_answer}
 use Rattle.channels.specs.declared.Bank.{Bank}
 use Rattle.channels.specs.declared.BankAnswer.{BankAnswer}
 use Rattle.channels.proofs.ShareLaws.{part_length, part_entry}
 use Rattle.acceptance.specs.Channels.{ChannelStarts, ChannelSamples, ChannelGaps, ChannelReports, ChannelTrace, BankStarts, BankSamples, BankGaps, BankReports, BankTrace, Accepted}
-use Rattle.acceptance.proofs.ChannelCalls.{starts_on_part, samples_on_part, gaps_on_part, reports_on_part, seen_from_channel, bank_seen, report_held, sample_held, other_part_kept, length_kept, other_meter_kept, bank_starts_on, bank_samples_on, bank_gaps_on, start_on, sample_on, same_part_same_start, same_part_same_sample}
+use Rattle.acceptance.proofs.ChannelCalls.{starts_on_part, samples_on_part, gaps_on_part, reports_on_part, seen_from_channel, bank_seen, report_held, sample_held, other_part_kept, length_kept, other_meter_kept, bank_starts_on, bank_samples_on, bank_gaps_on, same_part_same_start, same_part_same_sample}
 use Rattle.acceptance.specs.Noughts.{Refused}
 use Rattle.acceptance.specs.Promises.{SumOf, PartsOf, StretchesOf}
 use Rattle.acceptance.proofs.PromiseLaws.{report_of, one_stretch}

@@ -2,17 +2,15 @@
 use mathlib.Core.Path.{◌≡◌, refl, sym, ap, ◌∙◌}
 use mathlib.Core.Bool.{Bool, true, false, cond}
 use mathlib.Core.List.{List, []}
-use Prim.Native.Nat.{ℕ, ◌+◌, ◌-◌, ◌*◌, ◌≤◌, ◌<◌, ◌∣◌}
+use Prim.Native.Nat.{ℕ, ◌+◌, ◌-◌, ◌*◌, ◌≤◌, ◌<◌}
 use native.Mathlib.Decide.{dec_le}
 use native.Mathlib.Nat.{dvd-zero, mul-le-mul_left, mul-pos, le_of_mul-le-mul_left}
 use native.Mathlib.Omega.{arith}
-use base.Fml.{GName}
 use borrow.Author.Tests.{eqb-false, le-leb, lt-leb}
 use denote.Ref.{Bor}
-use lib.Dec.{leb, eqb}
+use lib.Dec.{eqb}
 use lib.IntN.{ℤ}
 use lib.ListN.{length}
-use Rattle.laws.proofs.Tests.{choice_true, choice_false}
 use Rattle.record.specs.Refusals.{record_refusal}
 use Rattle.record.specs.declared.Refusal.{Refusal}
 use Rattle.record.proofs.RefusalLaws.{unrefused_sound, first_refuses_nothing, rest_refuses_nothing}

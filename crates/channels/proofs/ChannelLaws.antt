@@ -1,12 +1,11 @@
 -- A call on a channel, above 15 and not; where a channel's part of the ring lies; and what the bank answers of the meter that it holds.
 use mathlib.Core.Path.{◌≡◌, refl, sym, ap, ◌∙◌}
-use mathlib.Core.Bool.{Bool, true, false, cond}
+use mathlib.Core.Bool.{true, false, cond}
 use mathlib.Core.List.{List, ◌++◌}
 use Prim.Native.Nat.{ℕ, ◌+◌, ◌-◌, ◌*◌, ◌/◌, ◌≤◌, ◌<◌}
 use native.Mathlib.Decide.{dec_le}
 use native.Mathlib.Omega.{arith}
-use borrow.Author.Tests.{le-leb, lt-leb, eq-eqb, ne_eqb}
-use lib.Dec.{leb, eqb}
+use borrow.Author.Tests.{le-leb, lt-leb}
 use lib.IntN.{ℤ}
 use lib.ListN.{length, take, drop}
 use lib.Seq.{drop-drop}
@@ -19,7 +18,6 @@ use Rattle.channels.specs.Shares.{is_channel, share, channel_part, with_part, me
 use Rattle.channels.specs.Answers.{no_channel, channel_start_answer, channel_sample_answer, channel_ring_left, channel_gap_answer, channel_report_answer}
 use Rattle.channels.specs.Answers.{bank_answer, bank_start_answer, bank_sample_answer, bank_ring_left, bank_gap_answer, bank_report_answer}
 use Rattle.channels.specs.declared.Bank.{Bank}
-use Rattle.channels.specs.declared.BankAnswer.{BankAnswer}
 
 -- ---- a channel, or none
 

@@ -1,6 +1,6 @@
 -- The parts of a ring: how long a channel's part is and where it lies, what stands in it once it is put back, and that every other entry is as it was. And
 -- the meters of a bank, of which one is replaced.
-use mathlib.Core.Path.{◌≡◌, ap, ◌∙◌}
+use mathlib.Core.Path.{◌≡◌, ◌∙◌}
 use mathlib.Core.List.{List}
 use mathlib.Core.Logic.{◌⊎◌, inl, inr}
 use Prim.Native.Nat.{ℕ, ◌+◌, ◌*◌, ◌/◌, ◌≤◌, ◌<◌}

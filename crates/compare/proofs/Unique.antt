@@ -1,5 +1,5 @@
 -- Each public function's contract leaves one answer; of a slice that is handed back, one place where it lies and one content.
-use mathlib.Core.Path.{◌≡◌, refl, sym, ◌∙◌}
+use mathlib.Core.Path.{refl, sym, ◌∙◌}
 use Rattle.laws.specs.Single.{Single}
 use Rattle.compare.proofs.quieter.Reads as quieter
 use Rattle.compare.proofs.quieter.Kinds as quieter-kinds

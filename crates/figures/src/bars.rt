@@ -2,6 +2,7 @@
 use crate::print::{double, number, refusal, text};
 use noise::Noise;
 use noise::bars::Bar;
+use std::io::Stdout;
 
 // Deviation r, noise type and M. The types are numbered as the rules' table has them, from alpha 2 down.
 const ROWS: [[u64; 3]; 20] = [
@@ -27,48 +28,46 @@ const ROWS: [[u64; 3]; 20] = [
     [18446744073709551615, 0, 32768],
 ];
 
-pub(crate) fn figures() {
-    let mut i: usize = 0;
-    while i < 20 {
-        line(ROWS[i]);
-        i += 1;
+pub(crate) fn figures(out: Stdout) {
+    for row in ROWS {
+        line(out, row);
     }
 }
 
 // One line: the lower end, the middle and the upper end.
-fn line(row: [u64; 3]) {
+fn line(out: Stdout, row: [u64; 3]) {
     let r = row[0];
     let place = row[1];
     let m = row[2];
-    heading(r, place, m);
+    heading(out, r, place, m);
     let answer = noise::bars::bars(r, type_at(place), m);
     if answer.number != 0 {
-        refusal(answer.number, answer.place);
-        text(b"\n");
+        refusal(out, answer.number, answer.place);
+        text(out, b"\n");
         return;
     }
-    doubles(answer.bar);
-    text(b"\n");
+    doubles(out, answer.bar);
+    text(out, b"\n");
 }
 
 // The deviation, the type and M.
-fn heading(r: u64, place: u64, m: u64) {
-    text(b"bar of ");
-    number(r);
-    text(b" with type ");
-    number(place);
-    text(b", M = ");
-    number(m);
-    text(b": ");
+fn heading(out: Stdout, r: u64, place: u64, m: u64) {
+    text(out, b"bar of ");
+    number(out, r);
+    text(out, b" with type ");
+    number(out, place);
+    text(out, b", M = ");
+    number(out, m);
+    text(out, b": ");
 }
 
 // The three doubles of a bar.
-fn doubles(bar: Bar) {
-    double(bar.low);
-    text(b" ");
-    double(bar.mid);
-    text(b" ");
-    double(bar.high);
+fn doubles(out: Stdout, bar: Bar) {
+    double(out, bar.low);
+    text(out, b" ");
+    double(out, bar.mid);
+    text(out, b" ");
+    double(out, bar.high);
 }
 
 // The types in the order of the table.

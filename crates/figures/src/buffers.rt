@@ -2,6 +2,7 @@
 use crate::print::{number, refusal, signed, sum, text, values};
 use crate::records;
 use record::CountAnswer;
+use std::io::Stdout;
 
 // The entries.
 const PHASES: usize = 0;
@@ -52,62 +53,60 @@ const SIZES: [[usize; 3]; 17] = [
     [2, 32769, 0],
 ];
 
-pub(crate) fn figures() {
-    rows();
-    drifts();
-    sizes();
-    of_rule(b"ends", records::ENDS);
-    of_rule(b"blocks", records::BLOCKS);
-    of_rule(b"squares", records::SQUARES);
-    of_rule(b"scattered", records::SCATTERED);
-    of_rule(b"line", records::LINE);
+pub(crate) fn figures(out: Stdout) {
+    rows(out);
+    drifts(out);
+    sizes(out);
+    of_rule(out, b"ends", records::ENDS);
+    of_rule(out, b"blocks", records::BLOCKS);
+    of_rule(out, b"squares", records::SQUARES);
+    of_rule(out, b"scattered", records::SCATTERED);
+    of_rule(out, b"line", records::LINE);
 }
 
 // The lines of each record of four values.
-fn rows() {
-    let mut i: usize = 0;
-    while i < 19 {
-        row_lines(ROWS[i]);
-        i += 1;
+fn rows(out: Stdout) {
+    for row in ROWS {
+        row_lines(out, row);
     }
 }
 
 // Each entry on one record.
-fn row_lines(row: [i64; 4]) {
-    filled(PHASES, &row);
-    filled(DIFFERENCES, &row);
-    drift_lines(&row);
+fn row_lines(out: Stdout, row: [i64; 4]) {
+    filled(out, PHASES, &row);
+    filled(out, DIFFERENCES, &row);
+    drift_lines(out, &row);
 }
 
 // The lines of records that are shorter or longer: h is above 1 from five samples on.
-fn drifts() {
-    drift_lines(&[0, 1, 4]);
-    drift_lines(&[1099511627776, -1099511627776, 1099511627776]);
-    drift_lines(&[0, 0, 0, 0, -1]);
-    drift_lines(&[0, 0, 0, 0, 1]);
-    drift_lines(&[0, 1, 4, 9, 16, 25]);
-    drift_lines(&[0, 0, 0, 0, -1, 1099511627776]);
-    drift_lines(&[0, 0, 0, 0, 0, 1099511627777]);
-    drift_lines(&[3, -1, 4, -1, 5, -9, 2]);
+fn drifts(out: Stdout) {
+    drift_lines(out, &[0, 1, 4]);
+    drift_lines(out, &[1099511627776, -1099511627776, 1099511627776]);
+    drift_lines(out, &[0, 0, 0, 0, -1]);
+    drift_lines(out, &[0, 0, 0, 0, 1]);
+    drift_lines(out, &[0, 1, 4, 9, 16, 25]);
+    drift_lines(out, &[0, 0, 0, 0, -1, 1099511627776]);
+    drift_lines(out, &[0, 0, 0, 0, 0, 1099511627777]);
+    drift_lines(out, &[3, -1, 4, -1, 5, -9, 2]);
 }
 
 // One record without its drift, and its drift.
-fn drift_lines(samples: &[i64]) {
-    filled(REMOVAL, samples);
-    text(b"drift of");
-    values(samples);
-    drift(samples);
+fn drift_lines(out: Stdout, samples: &[i64]) {
+    filled(out, REMOVAL, samples);
+    text(out, b"drift of");
+    values(out, samples);
+    drift(out, samples);
 }
 
 // One line: what an entry answers, and the buffer as it is left.
-fn filled(entry: usize, row: &[i64]) {
+fn filled(out: Stdout, entry: usize, row: &[i64]) {
     let mut buffer = [7i64; 6];
-    name(entry);
-    values(row);
-    count(fill(entry, row, &mut buffer));
-    text(b"; buffer");
-    values(&buffer);
-    text(b"\n");
+    name(out, entry);
+    values(out, row);
+    count(out, fill(entry, row, &mut buffer));
+    text(out, b"; buffer");
+    values(out, &buffer);
+    text(out, b"\n");
 }
 
 // An entry at work.
@@ -120,52 +119,50 @@ fn fill(entry: usize, values: &[i64], buffer: &mut [i64]) -> CountAnswer {
 }
 
 // An entry in words.
-fn name(entry: usize) {
+fn name(out: Stdout, entry: usize) {
     match entry {
-        0 => text(b"phases of"),
-        1 => text(b"differences of"),
-        _ => text(b"without drift"),
+        0 => text(out, b"phases of"),
+        1 => text(out, b"differences of"),
+        _ => text(out, b"without drift"),
     }
 }
 
 // How many entries were written, or the refusal.
-fn count(answer: CountAnswer) {
-    text(b": ");
+fn count(out: Stdout, answer: CountAnswer) {
+    text(out, b": ");
     if answer.number != 0 {
-        refusal(answer.number, answer.place);
+        refusal(out, answer.number, answer.place);
         return;
     }
-    number(answer.count);
-    text(b" written");
+    number(out, answer.count);
+    text(out, b" written");
 }
 
 // P and R, or the refusal, at the line's end.
-fn drift(samples: &[i64]) {
-    text(b": ");
+fn drift(out: Stdout, samples: &[i64]) {
+    text(out, b": ");
     let answer = drift::drift_figure(samples);
     if answer.number != 0 {
-        refusal(answer.number, answer.place);
-        text(b"\n");
+        refusal(out, answer.number, answer.place);
+        text(out, b"\n");
         return;
     }
-    text(b"P ");
-    signed(answer.p);
-    text(b", R ");
-    number(answer.r);
-    text(b"\n");
+    text(out, b"P ");
+    signed(out, answer.p);
+    text(out, b", R ");
+    number(out, answer.r);
+    text(out, b"\n");
 }
 
 // The lines of each size.
-fn sizes() {
-    let mut i: usize = 0;
-    while i < 17 {
-        size(SIZES[i]);
-        i += 1;
+fn sizes(out: Stdout) {
+    for row in SIZES {
+        size(out, row);
     }
 }
 
 // One line: an entry on noughts, with a buffer of some length.
-fn size(row: [usize; 3]) {
+fn size(out: Stdout, row: [usize; 3]) {
     let entry = row[0];
     let length = row[1];
     let room = row[2];
@@ -175,82 +172,82 @@ fn size(row: [usize; 3]) {
     if 32769 < room {
         return;
     }
-    heading(entry, length, room);
+    heading(out, entry, length, room);
     let noughts = [0i64; 32769];
     let mut buffer = [7i64; 32769];
-    count(fill(entry, &noughts[..length], &mut buffer[..room]));
-    text(b"\n");
+    count(out, fill(entry, &noughts[..length], &mut buffer[..room]));
+    text(out, b"\n");
 }
 
 // The entry, how many noughts, and the buffer's length.
-fn heading(entry: usize, length: usize, room: usize) {
-    name(entry);
-    text(b" ");
-    number(length as u64);
-    text(b" noughts, buffer of ");
-    number(room as u64);
+fn heading(out: Stdout, entry: usize, length: usize, room: usize) {
+    name(out, entry);
+    text(out, b" ");
+    number(out, length as u64);
+    text(out, b" noughts, buffer of ");
+    number(out, room as u64);
 }
 
 // The lines of one long record.
-fn of_rule(words: &[u8], rule: u8) {
+fn of_rule(out: Stdout, words: &[u8], rule: u8) {
     let mut samples = [0i64; 32768];
     records::fill(&mut samples, rule);
-    long_lines(words, &samples);
+    long_lines(out, words, &samples);
 }
 
 // Each entry on a long record, the first of its values taken as readings, and the way back from its differences.
-fn long_lines(words: &[u8], whole: &[i64; 32768]) {
+fn long_lines(out: Stdout, words: &[u8], whole: &[i64; 32768]) {
     let samples: &[i64] = whole;
-    phases(words, samples, 32767);
-    long(DIFFERENCES, words, samples);
-    long(REMOVAL, words, samples);
-    text(b"drift of ");
-    text(words);
-    drift(samples);
-    there_and_back(words, samples);
+    phases(out, words, samples, 32767);
+    long(out, DIFFERENCES, words, samples);
+    long(out, REMOVAL, words, samples);
+    text(out, b"drift of ");
+    text(out, words);
+    drift(out, samples);
+    there_and_back(out, words, samples);
 }
 
 // The phases of the first values.
-fn phases(words: &[u8], values: &[i64], length: usize) {
+fn phases(out: Stdout, words: &[u8], values: &[i64], length: usize) {
     if length <= values.len() {
-        long(PHASES, words, &values[..length]);
+        long(out, PHASES, words, &values[..length]);
     }
 }
 
 // One line: what an entry answers, and the Allan sum at factor 7 of the buffer as it is left.
-fn long(entry: usize, words: &[u8], values: &[i64]) {
+fn long(out: Stdout, entry: usize, words: &[u8], values: &[i64]) {
     let mut buffer = [7i64; 32768];
-    name(entry);
-    text(b" ");
-    text(words);
-    count(fill(entry, values, &mut buffer));
-    left(&buffer);
+    name(out, entry);
+    text(out, b" ");
+    text(out, words);
+    count(out, fill(entry, values, &mut buffer));
+    left(out, &buffer);
 }
 
 // The Allan sum at factor 7 of a buffer, or its refusal, at the line's end.
-fn left(buffer: &[i64; 32768]) {
+fn left(out: Stdout, buffer: &[i64; 32768]) {
     let samples: &[i64] = buffer;
     let answer = sums::allan_sum(samples, 7);
-    text(b"; Allan sum of the buffer ");
+    text(out, b"; Allan sum of the buffer ");
     if answer.number != 0 {
-        refusal(answer.number, answer.place);
-        text(b"\n");
+        refusal(out, answer.number, answer.place);
+        text(out, b"\n");
         return;
     }
-    sum(answer.sum, answer.count);
-    text(b"\n");
+    sum(out, answer.sum, answer.count);
+    text(out, b"\n");
 }
 
 // One line: the phases of a record's differences.
-fn there_and_back(words: &[u8], samples: &[i64]) {
+fn there_and_back(out: Stdout, words: &[u8], samples: &[i64]) {
     let mut readings = [7i64; 32768];
     fill(DIFFERENCES, samples, &mut readings);
-    back(words, &readings);
+    back(out, words, &readings);
 }
 
 // The phases of the readings that were written.
-fn back(words: &[u8], readings: &[i64; 32768]) {
+fn back(out: Stdout, words: &[u8], readings: &[i64; 32768]) {
     let values: &[i64] = readings;
-    text(b"back from differences, ");
-    phases(words, values, 32767);
+    text(out, b"back from differences, ");
+    phases(out, words, values, 32767);
 }

@@ -1,6 +1,7 @@
 // Fractions and plot dots of sums with a factor and a count, Allan and time.
 use crate::print::{double, halves, number, refusal, text};
 use plot::dots::{Dot, DotAnswer};
+use std::io::Stdout;
 use variances::FractionAnswer;
 use wide::Wide;
 
@@ -32,38 +33,36 @@ const ROWS: [[u64; 4]; 24] = [
     [4611686018427387903, 18446744073709551615, 10922, 32768],
 ];
 
-pub(crate) fn figures() {
-    let mut i: usize = 0;
-    while i < 24 {
-        lines(ROWS[i]);
-        i += 1;
+pub(crate) fn figures(out: Stdout) {
+    for row in ROWS {
+        lines(out, row);
     }
 }
 
 // Four lines: the two fractions and the two dots of one sum.
-fn lines(row: [u64; 4]) {
-    fractions(row);
-    dots(row);
+fn lines(out: Stdout, row: [u64; 4]) {
+    fractions(out, row);
+    dots(out, row);
 }
 
 // The Allan fraction and the time fraction.
-fn fractions(row: [u64; 4]) {
+fn fractions(out: Stdout, row: [u64; 4]) {
     let m = row[2];
     let count = row[3];
-    heading(b"Allan fraction", row);
-    fraction(variances::allan_fraction(sum_of(row), m, count));
-    heading(b"time fraction", row);
-    fraction(variances::time_fraction(sum_of(row), m, count));
+    heading(out, b"Allan fraction", row);
+    fraction(out, variances::allan_fraction(sum_of(row), m, count));
+    heading(out, b"time fraction", row);
+    fraction(out, variances::time_fraction(sum_of(row), m, count));
 }
 
 // The Allan dot and the time dot.
-fn dots(row: [u64; 4]) {
+fn dots(out: Stdout, row: [u64; 4]) {
     let m = row[2];
     let count = row[3];
-    heading(b"Allan dot", row);
-    dot(plot::dots::allan_dot(sum_of(row), m, count));
-    heading(b"time dot", row);
-    dot(plot::dots::time_dot(sum_of(row), m, count));
+    heading(out, b"Allan dot", row);
+    dot(out, plot::dots::allan_dot(sum_of(row), m, count));
+    heading(out, b"time dot", row);
+    dot(out, plot::dots::time_dot(sum_of(row), m, count));
 }
 
 // The sum of a row.
@@ -75,44 +74,44 @@ fn sum_of(row: [u64; 4]) -> Wide {
 }
 
 // What is worked, the sum, its count and the factor.
-fn heading(kind: &[u8], row: [u64; 4]) {
-    text(kind);
-    text(b" of ");
-    number(row[0]);
-    text(b":");
-    number(row[1]);
-    text(b" of ");
-    number(row[3]);
-    text(b", m = ");
-    number(row[2]);
-    text(b": ");
+fn heading(out: Stdout, kind: &[u8], row: [u64; 4]) {
+    text(out, kind);
+    text(out, b" of ");
+    number(out, row[0]);
+    text(out, b":");
+    number(out, row[1]);
+    text(out, b" of ");
+    number(out, row[3]);
+    text(out, b", m = ");
+    number(out, row[2]);
+    text(out, b": ");
 }
 
 // A fraction or its refusal, at the line's end.
-fn fraction(answer: FractionAnswer) {
+fn fraction(out: Stdout, answer: FractionAnswer) {
     if answer.number != 0 {
-        refusal(answer.number, answer.place);
-        text(b"\n");
+        refusal(out, answer.number, answer.place);
+        text(out, b"\n");
         return;
     }
-    halves(answer.numerator);
-    text(b"/");
-    number(answer.denominator);
-    text(b"\n");
+    halves(out, answer.numerator);
+    text(out, b"/");
+    number(out, answer.denominator);
+    text(out, b"\n");
 }
 
 // A dot or its refusal, at the line's end.
-fn dot(answer: DotAnswer) {
+fn dot(out: Stdout, answer: DotAnswer) {
     if answer.number != 0 {
-        refusal(answer.number, answer.place);
-        text(b"\n");
+        refusal(out, answer.number, answer.place);
+        text(out, b"\n");
         return;
     }
     let what = answer.dot;
     match what {
-        Dot::Drawn(value) => double(value),
-        Dot::Nought => text(b"nought"),
-        Dot::TooFew => text(b"too few"),
+        Dot::Drawn(value) => double(out, value),
+        Dot::Nought => text(out, b"nought"),
+        Dot::TooFew => text(out, b"too few"),
     }
-    text(b"\n");
+    text(out, b"\n");
 }

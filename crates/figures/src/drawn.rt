@@ -1,5 +1,6 @@
 // Drawn numbers, at the ends of what is drawn and where a double begins to leave digits out.
 use crate::print::{double, number, refusal, text};
+use std::io::Stdout;
 
 // Deviations in units of 2^-20.
 const ROWS: [u64; 27] = [
@@ -32,24 +33,22 @@ const ROWS: [u64; 27] = [
     18446744073709551615,
 ];
 
-pub(crate) fn figures() {
-    let mut i: usize = 0;
-    while i < 27 {
-        line(ROWS[i]);
-        i += 1;
+pub(crate) fn figures(out: Stdout) {
+    for r in ROWS {
+        line(out, r);
     }
 }
 
 // One line: the double of r, or its refusal.
-fn line(r: u64) {
-    text(b"drawn number of ");
-    number(r);
-    text(b": ");
+fn line(out: Stdout, r: u64) {
+    text(out, b"drawn number of ");
+    number(out, r);
+    text(out, b": ");
     let answer = plot::drawn::drawn_number(r);
     if answer.number != 0 {
-        refusal(answer.number, answer.place);
+        refusal(out, answer.number, answer.place);
     } else {
-        double(answer.value);
+        double(out, answer.value);
     }
-    text(b"\n");
+    text(out, b"\n");
 }

@@ -4,7 +4,6 @@
 
 #![tactic(auto)]
 
-mod bank;
 mod bars;
 mod buffers;
 mod dots;
@@ -12,24 +11,22 @@ mod drawn;
 mod floats;
 mod halves;
 mod print;
-mod quieter;
 mod records;
 mod refusals;
 mod streams;
 mod sweep;
 mod types;
 
-fn main() {
-    refusals::figures();
-    halves::figures();
-    sweep::figures();
-    quieter::figures();
-    streams::figures();
-    bank::figures();
-    floats::figures();
-    buffers::figures();
-    drawn::figures();
-    dots::figures();
-    types::figures();
-    bars::figures();
+fn main(rt: HostRuntime) {
+    let out = rt.stdout();
+    refusals::figures(out);
+    halves::figures(out);
+    sweep::figures(out);
+    streams::figures(out);
+    floats::figures(out);
+    buffers::figures(out);
+    drawn::figures(out);
+    dots::figures(out);
+    types::figures(out);
+    bars::figures(out);
 }

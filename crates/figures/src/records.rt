@@ -14,11 +14,9 @@ pub const LINE: u8 = 4;
 // Fills a record by a rule.
 pub(crate) fn fill(samples: &mut [i64; 32768], rule: u8) {
     let mut state: u64 = 1;
-    let mut i: usize = 0;
-    while i < 32768 {
+    for i in 0..32768 {
         state = next(state);
         samples[i] = sample(rule, (i % 65536) as u16, state);
-        i += 1;
     }
 }
 

@@ -2,6 +2,7 @@
 use crate::print::{number, refusal, text};
 use crate::records;
 use noise::{Noise, NoiseAnswer};
+use std::io::Stdout;
 
 // The time deviations at m and 2m.
 const PAIRS: [[u64; 2]; 30] = [
@@ -58,88 +59,84 @@ const SIZES: [[usize; 2]; 17] = [
     [5462, 32768],
 ];
 
-pub(crate) fn figures() {
-    pairs();
-    of_rule(b"ends", records::ENDS);
-    of_rule(b"blocks", records::BLOCKS);
-    of_rule(b"squares", records::SQUARES);
-    of_rule(b"scattered", records::SCATTERED);
-    of_rule(b"line", records::LINE);
+pub(crate) fn figures(out: Stdout) {
+    pairs(out);
+    of_rule(out, b"ends", records::ENDS);
+    of_rule(out, b"blocks", records::BLOCKS);
+    of_rule(out, b"squares", records::SQUARES);
+    of_rule(out, b"scattered", records::SCATTERED);
+    of_rule(out, b"line", records::LINE);
 }
 
 // The types of the pairs.
-fn pairs() {
-    let mut i: usize = 0;
-    while i < 30 {
-        pair(PAIRS[i]);
-        i += 1;
+fn pairs(out: Stdout) {
+    for row in PAIRS {
+        pair(out, row);
     }
 }
 
 // One line: the type of a pair.
-fn pair(row: [u64; 2]) {
+fn pair(out: Stdout, row: [u64; 2]) {
     let r1 = row[0];
     let r2 = row[1];
-    text(b"noise type of ");
-    number(r1);
-    text(b", ");
-    number(r2);
-    text(b": ");
-    alpha(noise::noise_type(r1, r2));
+    text(out, b"noise type of ");
+    number(out, r1);
+    text(out, b", ");
+    number(out, r2);
+    text(out, b": ");
+    alpha(out, noise::noise_type(r1, r2));
 }
 
 // The lines of one record.
-fn of_rule(name: &[u8], rule: u8) {
+fn of_rule(out: Stdout, name: &[u8], rule: u8) {
     let mut samples = [0i64; 32768];
     records::fill(&mut samples, rule);
-    sizes(name, &samples);
+    sizes(out, name, &samples);
 }
 
 // The types of a record at each size.
-fn sizes(name: &[u8], whole: &[i64; 32768]) {
+fn sizes(out: Stdout, name: &[u8], whole: &[i64; 32768]) {
     let samples: &[i64] = whole;
-    let mut i: usize = 0;
-    while i < 17 {
-        size(name, samples, SIZES[i]);
-        i += 1;
+    for row in SIZES {
+        size(out, name, samples, row);
     }
 }
 
 // One line: the type of the first samples at a factor.
-fn size(name: &[u8], samples: &[i64], row: [usize; 2]) {
+fn size(out: Stdout, name: &[u8], samples: &[i64], row: [usize; 2]) {
     let m = row[0];
     let length = row[1];
     if samples.len() < length {
         return;
     }
-    heading(name, m, length);
-    alpha(noise::noise_of_record(&samples[..length], m as u64));
+    heading(out, name, m, length);
+    alpha(out, noise::noise_of_record(&samples[..length], m as u64));
 }
 
 // The record's name, factor and length.
-fn heading(name: &[u8], m: usize, length: usize) {
-    text(b"noise type of ");
-    text(name);
-    text(b" m ");
-    number(m as u64);
-    text(b" N ");
-    number(length as u64);
-    text(b": ");
+fn heading(out: Stdout, name: &[u8], m: usize, length: usize) {
+    text(out, b"noise type of ");
+    text(out, name);
+    text(out, b" m ");
+    number(out, m as u64);
+    text(out, b" N ");
+    number(out, length as u64);
+    text(out, b": ");
 }
 
 // A type by its alpha, or the refusal, at the line's end.
-fn alpha(answer: NoiseAnswer) {
+fn alpha(out: Stdout, answer: NoiseAnswer) {
     if answer.number != 0 {
-        refusal(answer.number, answer.place);
-        text(b"\n");
+        refusal(out, answer.number, answer.place);
+        text(out, b"\n");
         return;
     }
     let noise = answer.noise;
     match noise {
-        Noise::WhitePhase => text(b"alpha 2\n"),
-        Noise::FlickerPhase => text(b"alpha 1\n"),
-        Noise::WhiteFrequency => text(b"alpha 0\n"),
-        Noise::FlickerFrequency => text(b"alpha -1\n"),
-        Noise::RandomWalkFrequency => text(b"alpha -2\n"),
+        Noise::WhitePhase => text(out, b"alpha 2\n"),
+        Noise::FlickerPhase => text(out, b"alpha 1\n"),
+        Noise::WhiteFrequency => text(out, b"alpha 0\n"),
+        Noise::FlickerFrequency => text(out, b"alpha -1\n"),
+        Noise::RandomWalkFrequency => text(out, b"alpha -2\n"),
     }
 }

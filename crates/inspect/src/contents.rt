@@ -1,8 +1,7 @@
 // What a record file holds, as one line to standard output. Every figure is the library's, and every answer is tested before it is passed on.
 use crate::line::{ROOM, byte, millionths, number, signed, text, whole, written};
-use crate::trouble;
 use crate::words::{refused, refused_at};
-use libc::STDOUT_FILENO;
+use crate::{errors, trouble};
 use sums::SumAnswer;
 use variances::DeviationAnswer;
 
@@ -14,14 +13,19 @@ const SHORT: u64 = 1;
 const LONG: u64 = 2;
 
 // The line of a file.
-pub(crate) fn show(path: &[u8], bytes: &[u8]) {
+pub(crate) fn show(rt: &HostRuntime, path: &[u8], bytes: &[u8]) {
     let mut line = [0u8; ROOM];
     let at = text(&mut line, 0, path);
     let at = text(&mut line, at, b": ");
     let at = contents(&mut line, at, bytes);
     let at = byte(&mut line, at, b'\n');
-    if !written(STDOUT_FILENO, &line, at) {
-        trouble::file(b"standard output", b": cannot be written: ", os::errno());
+    if let Err(error) = written(&rt.stdout(), &line, at) {
+        trouble::file(
+            rt,
+            b"standard output",
+            b": cannot be written: ",
+            errors::code(error),
+        );
     }
 }
 

@@ -1,26 +1,20 @@
 // What the program says of itself.
-use libc::{STDERR_FILENO, STDOUT_FILENO};
 
 // Whether a word asks for help.
 pub(crate) fn asked(word: &[u8]) -> bool {
-    if check::same(word, b"-h") {
-        return true;
-    }
-    check::same(word, b"--help")
+    matches!(word, b"-h" | b"--help")
 }
 
 // To standard error, where no file is named.
-pub(crate) fn usage() {
-    io::write_all(
-        STDERR_FILENO,
-        b"usage: inspect FILE.. (inspect --help says more)\n",
-    );
+pub(crate) fn usage(rt: &HostRuntime) {
+    let _ = rt
+        .stderr()
+        .write_all(b"usage: inspect FILE.. (inspect --help says more)\n");
 }
 
 // To standard output.
-pub(crate) fn help() {
-    io::write_all(
-        STDOUT_FILENO,
+pub(crate) fn help(rt: &HostRuntime) {
+    let _ = rt.stdout().write_all(
         b"usage: inspect FILE..
 
 Reads record files and writes a line for each, in one piece, to standard output:

@@ -1,5 +1,6 @@
 // A line that is collected first and then written in one call, so that two programs that write to one file do not mix inside a line. A function
 // takes the place of the next byte and gives the place after its own bytes.
+use std::io;
 use wide::Wide;
 
 // Room for a name of 4,096 bytes and for all that is said of it. A byte beyond it is left out.
@@ -22,10 +23,8 @@ pub(crate) fn byte(line: &mut [u8; ROOM], at: usize, b: u8) -> usize {
 // Bytes. A control byte, which a file's name may have, becomes a question mark, so that a line stays one line.
 pub(crate) fn text(line: &mut [u8; ROOM], at: usize, bytes: &[u8]) -> usize {
     let mut end = at;
-    let mut i: usize = 0;
-    while i < bytes.len() {
-        end = byte(line, end, shown(bytes[i]));
-        i += 1;
+    for b in bytes {
+        end = byte(line, end, shown(*b));
     }
     end
 }
@@ -59,13 +58,13 @@ pub(crate) fn millionths(line: &mut [u8; ROOM], at: usize, units: u64) -> usize 
     whole(line, at, Wide { hi: 0, lo: rest }, 6)
 }
 
-// The line so far, in one call, and whether all of it was taken.
-pub(crate) fn written(descriptor: i32, line: &[u8; ROOM], end: usize) -> bool {
+// The line so far, in one call, or the error for which not all of it was taken.
+pub(crate) fn written(to: &impl Print, line: &[u8; ROOM], end: usize) -> io::Result<()> {
     let all: &[u8] = line;
     if end <= all.len() {
-        return io::write_all(descriptor, &all[0..end]);
+        return to.write_all(&all[0..end]);
     }
-    false
+    Err(io::Error::from(io::ErrorKind::WriteZero))
 }
 
 // A byte as a line shows it.

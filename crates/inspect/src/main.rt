@@ -4,78 +4,117 @@
 #![tactic(auto)]
 
 mod contents;
+mod errors;
 mod help;
 mod line;
 mod trouble;
 mod words;
 
+ghost use Rattle.std.specs.Prelude.{◌≤◌, length};
+
+use std::env::{Env, FillError};
+use std::fs::File;
+use std::io::Read;
+use std::{fs, io};
+
 // The longest sound file, of version 2, has 262,160 bytes, so that one byte more tells a longer one.
 const LONGEST: usize = 262161;
+// Room for the longest name that the system takes.
+const NAME: usize = 4096;
 
-fn main() {
-    let count = os::arg_count();
+fn main(rt: HostRuntime) {
+    let count = arguments(&rt);
     if count < 2 {
-        help::usage();
+        help::usage(&rt);
         return;
     }
-    let mut i: usize = 1;
-    while i < count {
-        argument(i);
-        i += 1;
+    for i in 1..count {
+        argument(&rt, i);
     }
+}
+
+// How many arguments there are, the program's own name among them. Asked for with no room at all, only one that is missing is told as missing.
+fn arguments(rt: &HostRuntime) -> usize {
+    for i in 0..usize::MAX {
+        if let Err(FillError::NotPresent) = rt.arg(i, &mut []) {
+            return i;
+        }
+    }
+    usize::MAX
 }
 
 // An argument as a word.
-fn argument(i: usize) {
-    let mut path = io::buffer();
-    let length = os::arg(i, &mut path);
-    let error = os::errno();
-    if error != 0 {
-        trouble::argument(i, error);
-        return;
+fn argument(rt: &HostRuntime, i: usize) {
+    let mut path = [0u8; NAME];
+    match rt.arg(i, &mut path) {
+        Ok(length) => word(rt, &path[..length]),
+        Err(_) => trouble::argument(rt, i, errors::ENAMETOOLONG),
     }
-    word(&path[..length]);
 }
 
 // Help, or the file of that name.
-fn word(path: &[u8]) {
+fn word(rt: &HostRuntime, path: &[u8]) {
     if help::asked(path) {
-        help::help();
+        help::help(rt);
         return;
     }
-    file(path);
+    file(rt, path);
 }
 
 // The file's line, or why it has none.
-fn file(path: &[u8]) {
-    let descriptor = os::open_read(path);
-    if descriptor < 0 {
-        trouble::file(path, b": cannot be opened: ", os::errno());
-        return;
+fn file(rt: &HostRuntime, path: &[u8]) {
+    match opened(rt, path) {
+        Ok(file) => read(rt, path, file),
+        Err(error) => trouble::file(rt, path, b": cannot be opened: ", errors::code(error)),
     }
+}
+
+// The file of that name. The system's files are opened by names in UTF-8 alone.
+fn opened(rt: &HostRuntime, path: &[u8]) -> io::Result<File> {
+    match str::from_utf8(path) {
+        Ok(name) => fs::open(rt, name),
+        Err(_) => Err(io::Error::from_raw_os_error(errors::EILSEQ)),
+    }
+}
+
+// The line of an open file, which is closed at the end.
+fn read(rt: &HostRuntime, path: &[u8], mut file: File) {
     let mut bytes = [0u8; LONGEST];
-    let length = io::read_full(descriptor, &mut bytes);
-    let error = stopped_by(descriptor, length);
-    libc::close(descriptor);
+    let length = filled(&mut file, &mut bytes);
+    let error = stopped_by(&mut file, length);
     if error != 0 {
-        trouble::file(path, b": cannot be read: ", error);
+        trouble::file(rt, path, b": cannot be read: ", error);
         return;
     }
-    contents::show(path, &bytes[..length]);
+    contents::show(rt, path, &bytes[..length]);
+}
+
+// How many bytes were read: until there is no more room, until the file's end, or until a read fails.
+fn filled(file: &mut File, bytes: &mut [u8]) -> usize
+    ensures { result ≤ length bytes.new }
+{
+    let mut done = 0;
+    for _ in 0..bytes.len() {
+        if done == bytes.len() {
+            return done;
+        }
+        match file.read(&mut bytes[done..]) {
+            Ok(0) | Err(_) => return done,
+            Ok(got) => done += got,
+        }
+    }
+    done
 }
 
 // The error that ended the reading, or 0. A read that finds more where the one before it stopped short was interrupted.
-fn stopped_by(descriptor: i32, length: usize) -> i32 {
+fn stopped_by(file: &mut File, length: usize) -> i32 {
     if length == LONGEST {
         return 0;
     }
     let mut more = [0u8; 1];
-    let got = libc::read(descriptor, &mut more);
-    if got < 0 {
-        return os::errno();
+    match file.read(&mut more) {
+        Ok(0) => 0,
+        Ok(_) => errors::EINTR,
+        Err(error) => errors::code(error),
     }
-    if got == 0 {
-        return 0;
-    }
-    libc::EINTR
 }

@@ -1,24 +1,23 @@
 // What could not be opened, read or written: a line to standard error.
 use crate::line::{ROOM, byte, number, text, written};
 use crate::words::reason;
-use libc::STDERR_FILENO;
 
 // A file.
-pub(crate) fn file(path: &[u8], what: &[u8], error: i32) {
+pub(crate) fn file(rt: &HostRuntime, path: &[u8], what: &[u8], error: i32) {
     let mut line = [0u8; ROOM];
     let at = text(&mut line, 0, b"inspect: ");
     let at = text(&mut line, at, path);
     let at = explained(&mut line, at, what, error);
-    written(STDERR_FILENO, &line, at);
+    let _ = written(&rt.stderr(), &line, at);
 }
 
 // An argument that could not be taken.
-pub(crate) fn argument(i: usize, error: i32) {
+pub(crate) fn argument(rt: &HostRuntime, i: usize, error: i32) {
     let mut line = [0u8; ROOM];
     let at = text(&mut line, 0, b"inspect: argument ");
     let at = number(&mut line, at, i as u64);
     let at = explained(&mut line, at, b": cannot be opened: ", error);
-    written(STDERR_FILENO, &line, at);
+    let _ = written(&rt.stderr(), &line, at);
 }
 
 // What went wrong and why, to the end of the line.

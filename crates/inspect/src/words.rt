@@ -1,4 +1,5 @@
 // Refusals and the system's errors in words. The words of a refusal are those of plg_refusal_text in include/ploegelster.h.
+use crate::errors;
 use crate::line::{ROOM, number, text};
 
 // A refusal with its place, if it has one: a byte of a file or the index of a value. The place of any other means nothing.
@@ -43,15 +44,15 @@ fn placed(line: &mut [u8; ROOM], at: usize, counts: &[u8], place: u64) -> usize 
 // An error of the system.
 pub(crate) fn reason(line: &mut [u8; ROOM], at: usize, error: i32) -> usize {
     match error {
-        libc::ENOENT => text(line, at, b"no such file or directory"),
-        libc::EINTR => text(line, at, b"interrupted"),
-        libc::EIO => text(line, at, b"input or output error"),
-        libc::EACCES => text(line, at, b"permission denied"),
-        libc::ENOTDIR => text(line, at, b"not a directory"),
-        libc::EISDIR => text(line, at, b"is a directory"),
-        libc::EMFILE => text(line, at, b"too many open files"),
-        libc::ENOSPC => text(line, at, b"no space left on device"),
-        libc::ENAMETOOLONG => text(line, at, b"file name too long"),
+        errors::ENOENT => text(line, at, b"no such file or directory"),
+        errors::EINTR => text(line, at, b"interrupted"),
+        errors::EIO => text(line, at, b"input or output error"),
+        errors::EACCES => text(line, at, b"permission denied"),
+        errors::ENOTDIR => text(line, at, b"not a directory"),
+        errors::EISDIR => text(line, at, b"is a directory"),
+        errors::EMFILE => text(line, at, b"too many open files"),
+        errors::ENOSPC => text(line, at, b"no space left on device"),
+        errors::ENAMETOOLONG => text(line, at, b"file name too long"),
         _ => other(line, at, error),
     }
 }

@@ -1,12 +1,12 @@
 -- The text of columns and lines: each column with the byte that follows it, and how long they can be.
 use mathlib.Core.Path.{◌≡◌, refl, sym, ap, ◌∙◌}
 use mathlib.Core.List.{List, [], ◌∷◌, ◌++◌, append_assoc, append-nil}
-use Prim.Native.Nat.{ℕ, ◌+◌, ◌-◌}
+use Prim.Native.Nat.{ℕ, ◌-◌}
 use native.Mathlib.Omega.{arith}
 use borrow.Author.Tests.{eq-eqb, ne_eqb}
 use lib.IntN.{ℤ}
 use lib.ListN.{length, take, drop, length-append, length-drop, drop_of_length-le}
-use lib.Seq.{length-take-le, take_all, take-length, drop_at}
+use lib.Seq.{length-take-le, take_all, drop_at}
 use Rattle.wide.specs.Wide.{value}
 use Rattle.decimal.specs.Decimal.{decimal}
 use Rattle.decimal.proofs.DigitLaws.{decimal_within}

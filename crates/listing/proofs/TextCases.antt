@@ -8,7 +8,6 @@ use native.Mathlib.Omega.{arith}
 use borrow.Author.Tests.{lt-ltb, le-ltb, ltb-false, eq-eqb, ne_eqb}
 use lib.Dec.{ltb}
 use lib.ListN.{length, take, drop}
-use lib.Seq.{take-length}
 use Rattle.laws.specs.Lists.{written}
 use Rattle.laws.proofs.AppendLaws.{Appended, all_appended}
 use Rattle.record.specs.Answers.{buffer_left}

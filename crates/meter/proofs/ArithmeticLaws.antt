@@ -14,14 +14,14 @@ use Rattle.laws.specs.Sums.{square}
 use Rattle.laws.proofs.Parts.{size_is, small_fits, square_within_lem}
 use Rattle.laws.proofs.Expressions.{Expression, $◌, #◌, ◌⊕◌, ◌⊖◌, ◌⊗◌, size_within}
 use Rattle.laws.proofs.Machine.{Fit, machine, machine_is, read_back}
-use Rattle.laws.proofs.Tests.{choice_true, choice_false, choices_agree}
+use Rattle.laws.proofs.Tests.{choice_true, choices_agree}
 use Rattle.wide.specs.Wide.{value, halves, wide_sum}
 use Rattle.wide.specs.declared.Wide.{Wide}
 use Rattle.wide.proofs.WideLaws.{value_of_halves, sum_is_halves}
 use Rattle.sums.proofs.TotalLaws.{read}
 use Rattle.meter.specs.Meter.{holds_together, new_difference, old_difference, window_with, with_terms, with_sample}
 use Rattle.meter.specs.declared.Meter.{Meter}
-use Rattle.meter.proofs.TestLaws.{Together, holds_together_lem, one_back, two_back, three_back, read_one, read_two, read_three}
+use Rattle.meter.proofs.TestLaws.{holds_together_lem, one_back, two_back, three_back, read_one, read_two, read_three}
 
 -- ---- the second difference of three samples in range
 

@@ -1,6 +1,7 @@
 // The worked example of section IV: eight frequency values of one second each, in units of 10^-7, and their Allan variance.
 use crate::print::{hundredths, number, refusal, tenths, text, verdict};
 use crate::rounding::rounded;
+use std::io::Stdout;
 use wide::Wide;
 
 // The data values: 4.36, 4.61 and so on, times 10^-5.
@@ -16,132 +17,130 @@ const VARIANCE: u64 = 32;
 // The deviation as it is printed, in tenths of 10^-6.
 const DEVIATION: u64 = 56;
 
-pub(crate) fn figures() {
+pub(crate) fn figures(out: Stdout) {
     let values = VALUES;
     let mut phases = [0i64; 9];
     let answer = frequency::phase_from_frequency(&values, &mut phases);
     if answer.number != 0 {
-        text(b"phases ");
-        refusal(answer.number, answer.place);
+        text(out, b"phases ");
+        refusal(out, answer.number, answer.place);
         return;
     }
-    squares(&phases);
-    whole(&phases);
+    squares(out, &phases);
+    whole(out, &phases);
 }
 
 // The squares one by one: each is the Allan sum of three phases.
-fn squares(phases: &[i64; 9]) {
-    let mut i: usize = 0;
-    while i < 7 {
+fn squares(out: Stdout, phases: &[i64; 9]) {
+    for i in 0..7 {
         let x = [phases[i], phases[i + 1], phases[i + 2]];
-        square(x, SQUARES[i]);
-        i += 1;
+        square(out, x, SQUARES[i]);
     }
 }
 
 // One line: a first difference squared.
-fn square(x: [i64; 3], printed: u64) {
+fn square(out: Stdout, x: [i64; 3], printed: u64) {
     let answer = sums::allan_sum(&x, 1);
     if answer.number != 0 {
-        text(b"first difference squared ");
-        refusal(answer.number, answer.place);
+        text(out, b"first difference squared ");
+        refusal(out, answer.number, answer.place);
         return;
     }
     let square = answer.sum.lo;
     let ours = rounded(square, 100);
-    text(b"first difference squared ");
-    number(square);
-    text(b" in 10^-14, rounded ");
-    hundredths(ours);
-    text(b"e-10, printed ");
-    hundredths(printed);
-    text(b"e-10");
-    verdict(ours, printed);
+    text(out, b"first difference squared ");
+    number(out, square);
+    text(out, b" in 10^-14, rounded ");
+    hundredths(out, ours);
+    text(out, b"e-10, printed ");
+    hundredths(out, printed);
+    text(out, b"e-10");
+    verdict(out, ours, printed);
 }
 
 // The sum of the squares, their count, the variance and the deviation.
-fn whole(phases: &[i64; 9]) {
+fn whole(out: Stdout, phases: &[i64; 9]) {
     let samples: &[i64] = phases;
     let answer = sums::allan_sum(samples, 1);
     if answer.number != 0 {
-        text(b"Allan sum ");
-        refusal(answer.number, answer.place);
+        text(out, b"Allan sum ");
+        refusal(out, answer.number, answer.place);
         return;
     }
     let total = answer.sum;
-    sum(total.lo);
-    count(answer.count);
-    variance(total, answer.count);
-    deviation(total, answer.count);
+    sum(out, total.lo);
+    count(out, answer.count);
+    variance(out, total, answer.count);
+    deviation(out, total, answer.count);
 }
 
 // One line: the sum.
-fn sum(low: u64) {
+fn sum(out: Stdout, low: u64) {
     let ours = rounded(low, 100);
-    text(b"sum ");
-    number(low);
-    text(b" in 10^-14, rounded ");
-    hundredths(ours);
-    text(b"e-10, printed ");
-    hundredths(SUM);
-    text(b"e-10");
-    verdict(ours, SUM);
+    text(out, b"sum ");
+    number(out, low);
+    text(out, b" in 10^-14, rounded ");
+    hundredths(out, ours);
+    text(out, b"e-10, printed ");
+    hundredths(out, SUM);
+    text(out, b"e-10");
+    verdict(out, ours, SUM);
 }
 
 // One line: the count.
-fn count(ours: u64) {
-    text(b"count ");
-    number(ours);
-    text(b", printed ");
-    number(COUNT);
-    verdict(ours, COUNT);
+fn count(out: Stdout, ours: u64) {
+    text(out, b"count ");
+    number(out, ours);
+    text(out, b", printed ");
+    number(out, COUNT);
+    verdict(out, ours, COUNT);
 }
 
 // One line: the variance. A half of a hundred is whole, so that the fraction's whole part is enough to round it.
-fn variance(total: Wide, count: u64) {
+fn variance(out: Stdout, total: Wide, count: u64) {
     let answer = variances::allan_fraction(total, 1, count);
     let denominator = answer.denominator;
     if denominator == 0 {
-        text(b"variance ");
-        refusal(answer.number, answer.place);
+        text(out, b"variance ");
+        refusal(out, answer.number, answer.place);
         return;
     }
     let numerator = answer.numerator.lo;
     let ours = rounded(numerator / denominator, 100);
-    text(b"variance ");
-    number(numerator);
-    text(b"/");
-    number(denominator);
-    text(b" in 10^-14, rounded ");
-    tenths(ours);
-    text(b"e-11, printed ");
-    tenths(VARIANCE);
-    text(b"e-11");
-    verdict(ours, VARIANCE);
+    text(out, b"variance ");
+    number(out, numerator);
+    text(out, b"/");
+    number(out, denominator);
+    text(out, b" in 10^-14, rounded ");
+    tenths(out, ours);
+    text(out, b"e-11, printed ");
+    tenths(out, VARIANCE);
+    text(out, b"e-11");
+    verdict(out, ours, VARIANCE);
 }
 
 // Two lines: the deviation, rounded and cut off. The note cuts off: even the root of its rounded 3.2e-11 is nearer 5.7e-6.
-fn deviation(total: Wide, count: u64) {
+fn deviation(out: Stdout, total: Wide, count: u64) {
     let answer = variances::allan_deviation(total, 1, count);
     if answer.number != 0 {
-        text(b"deviation ");
-        refusal(answer.number, answer.place);
+        text(out, b"deviation ");
+        refusal(out, answer.number, answer.place);
         return;
     }
     let r = answer.deviation;
-    one_deviation(b"rounded ", r, rounded(r, 1048576));
-    one_deviation(b"cut off ", r, r / 1048576);
+    one_deviation(out, b"rounded ", r, rounded(r, 1048576));
+    one_deviation(out, b"cut off ", r, r / 1048576);
 }
 
 // One line: the deviation in fewer digits.
-fn one_deviation(words: &[u8], r: u64, ours: u64) {
-    text(b"deviation ");
-    number(r);
-    text(b"/1048576 in 10^-7, ");
-    text(words);
-    tenths(ours);
-    text(b"e-6, printed ");
-    tenths(DEVIATION);
-    text(b"e-6");
-    verdict(ours, DEVIATION);
+fn one_deviation(out: Stdout, words: &[u8], r: u64, ours: u64) {
+    text(out, b"deviation ");
+    number(out, r);
+    text(out, b"/1048576 in 10^-7, ");
+    text(out, words);
+    tenths(out, ours);
+    text(out, b"e-6, printed ");
+    tenths(out, DEVIATION);
+    text(out, b"e-6");
+    verdict(out, ours, DEVIATION);
 }

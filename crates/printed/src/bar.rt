@@ -2,6 +2,7 @@
 use crate::print::{hundredths, number, refusal, text, thousandths, verdict};
 use crate::rounding::rounded;
 use noise::Noise;
+use std::io::Stdout;
 
 // The deviation: a million units are 10^-12.
 const UNIT: u64 = 1000000;
@@ -12,43 +13,43 @@ const RATIO: u64 = 77;
 
 const HALF: u64 = 8;
 
-pub(crate) fn figures() {
+pub(crate) fn figures(out: Stdout) {
     let answer = noise::bars::bars(UNIT, Noise::FlickerFrequency, INTERVALS);
     if answer.number != 0 {
-        text(b"bar ");
-        refusal(answer.number, answer.place);
+        text(out, b"bar ");
+        refusal(out, answer.number, answer.place);
         return;
     }
     let bar = answer.bar;
-    half(b"above", units(bar.high - bar.mid));
-    half(b"below", units(bar.mid - bar.low));
+    half(out, b"above", units(bar.high - bar.mid));
+    half(out, b"below", units(bar.mid - bar.low));
 }
 
 // Two lines: one half of the bar, as a part of the deviation.
-fn half(side: &[u8], h: u64) {
+fn half(out: Stdout, side: &[u8], h: u64) {
     let ratio = rounded(h, 1000);
-    heading(side, h);
-    thousandths(ratio);
-    text(b", printed ");
-    thousandths(RATIO);
-    verdict(ratio, RATIO);
+    heading(out, side, h);
+    thousandths(out, ratio);
+    text(out, b", printed ");
+    thousandths(out, RATIO);
+    verdict(out, ratio, RATIO);
     let hundred = rounded(h, 10000);
-    heading(side, h);
-    hundredths(hundred);
-    text(b", printed ");
-    hundredths(HALF);
-    verdict(hundred, HALF);
+    heading(out, side, h);
+    hundredths(out, hundred);
+    text(out, b", printed ");
+    hundredths(out, HALF);
+    verdict(out, hundred, HALF);
 }
 
 // The side and the half in units.
-fn heading(side: &[u8], h: u64) {
-    text(b"half of the bar ");
-    text(side);
-    text(b" ");
-    number(h);
-    text(b"/");
-    number(UNIT);
-    text(b", rounded ");
+fn heading(out: Stdout, side: &[u8], h: u64) {
+    text(out, b"half of the bar ");
+    text(out, side);
+    text(out, b" ");
+    number(out, h);
+    text(out, b"/");
+    number(out, UNIT);
+    text(out, b", rounded ");
 }
 
 // A double as a number of 2^-20, which it is exactly here: the three of the bar are such numbers below 2^53. Nought for what does not fit.

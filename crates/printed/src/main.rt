@@ -9,7 +9,8 @@ mod bar;
 mod print;
 mod rounding;
 
-fn main() {
-    allan::figures();
-    bar::figures();
+fn main(rt: HostRuntime) {
+    let out = rt.stdout();
+    allan::figures(out);
+    bar::figures(out);
 }

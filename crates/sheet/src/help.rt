@@ -1,18 +1,15 @@
 // What the program says of itself.
-use libc::{STDERR_FILENO, STDOUT_FILENO};
 
 // To standard error, where no file is named.
-pub(crate) fn usage() {
-    io::write_all(
-        STDERR_FILENO,
-        b"usage: sheet FILE.. (sheet --help says more)\n",
-    );
+pub(crate) fn usage(rt: &HostRuntime) {
+    let _ = rt
+        .stderr()
+        .write_all(b"usage: sheet FILE.. (sheet --help says more)\n");
 }
 
 // To standard output.
-pub(crate) fn help() {
-    io::write_all(
-        STDOUT_FILENO,
+pub(crate) fn help(rt: &HostRuntime) {
+    let _ = rt.stdout().write_all(
         b"usage: sheet FILE..
 
 Reads record files of at most 4,096 samples, or 4,095 frequency readings, and writes a

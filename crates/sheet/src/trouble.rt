@@ -1,34 +1,43 @@
 // What could not be opened, read or written: a line to standard error.
-use libc::STDERR_FILENO;
+use crate::reason;
+use std::io;
 
-// What the system could not do with a file, and why, right after it.
-pub(crate) fn file(path: &[u8]) {
-    text(b"sheet: ");
-    os::fail(path);
+// What the system could not do with a file, and why.
+pub(crate) fn file(rt: &HostRuntime, path: &[u8], error: io::Error) {
+    text(rt, b"sheet: ");
+    text(rt, path);
+    why(rt, error);
 }
 
 // An argument that could not be taken.
-pub(crate) fn argument(i: usize) {
-    text(b"sheet: argument ");
-    io::print_decimal(STDERR_FILENO, i as u64);
-    os::fail(b"");
+pub(crate) fn argument(rt: &HostRuntime, i: usize, error: io::Error) {
+    text(rt, b"sheet: argument ");
+    let _ = rt.eprint(i);
+    why(rt, error);
 }
 
 // A file of which a part may lack.
-pub(crate) fn interrupted(path: &[u8]) {
-    text(b"sheet: ");
-    text(path);
-    text(b": the reading was interrupted\n");
+pub(crate) fn interrupted(rt: &HostRuntime, path: &[u8]) {
+    text(rt, b"sheet: ");
+    text(rt, path);
+    text(rt, b": the reading was interrupted\n");
 }
 
 // A call that the library refused, which it never does here.
-pub(crate) fn refused(number: u64) {
-    text(b"sheet: refused ");
-    io::print_decimal(STDERR_FILENO, number);
-    text(b"\n");
+pub(crate) fn refused(rt: &HostRuntime, number: u64) {
+    text(rt, b"sheet: refused ");
+    let _ = rt.eprint(number);
+    text(rt, b"\n");
+}
+
+// Why, to the end of the line.
+fn why(rt: &HostRuntime, error: io::Error) {
+    text(rt, b": ");
+    reason::told(rt, error);
+    text(rt, b"\n");
 }
 
 // Bytes.
-fn text(bytes: &[u8]) {
-    io::write_all(STDERR_FILENO, bytes);
+fn text(rt: &HostRuntime, bytes: &[u8]) {
+    let _ = rt.stderr().write_all(bytes);
 }

@@ -9,7 +9,7 @@ use Rattle.laws.proofs.SumLaws.{sum_step, sum_within}
 use Rattle.laws.proofs.Squares.{raised, raised_within, squares_of_raised, squares_by_parts}
 use Rattle.wide.specs.Wide.{value, halves, wide_sum, wide_difference}
 use Rattle.wide.specs.declared.Wide.{Wide}
-use Rattle.wide.proofs.WideLaws.{value_of_halves, halves_of_value, sum_of_halves, sum_is_halves, below_top}
+use Rattle.wide.proofs.WideLaws.{halves_of_value, sum_of_halves, sum_is_halves, below_top}
 use Rattle.sums.specs.declared.squares.Parts.{Parts}
 use Rattle.wide.proofs.Complements.{difference_of_halves}
 

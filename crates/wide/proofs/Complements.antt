@@ -1,5 +1,5 @@
 -- What is left of the top in halves, and a difference by it.
-use Rattle.std.proofs.Common.{◌≡◌, ℕ, ◌+◌, ◌-◌, ◌*◌, ◌%◌, ◌^◌, ◌<◌, ◌≤◌, sym, ap, ◌∙◌, ap₂, arith}
+use Rattle.std.proofs.Common.{◌≡◌, ℕ, ◌+◌, ◌-◌, ◌%◌, ◌^◌, ◌<◌, ◌≤◌, sym, ap, ◌∙◌, ap₂, arith}
 use Rattle.laws.proofs.Halves.{two_digits_below, complement_in_halves, difference_by_complements, difference_within}
 use Rattle.wide.specs.Wide.{value, halves, wide_sum, wide_difference}
 use Rattle.wide.specs.declared.Wide.{Wide}

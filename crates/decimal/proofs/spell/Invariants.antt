@@ -1,5 +1,4 @@
 -- `decimal::spell` meets its contract. The loop's invariant: the digits from place `i` on are laid down, and `rest` has the others.
-use Prim.Native.Nat.{◌-◌}
 use Rattle.wide.specs.Wide.{value}
 use Rattle.decimal.proofs.DigitLaws.{Laid}
 use Rattle.decimal.proofs.spell.Given as goal

@@ -1,6 +1,5 @@
 -- `drift::first_outside` meets its contract, what its invariant leaves to show.
 use mathlib.Core.Path.{sym}
-use Prim.Native.Nat.{◌-◌}
 use native.Mathlib.Omega.{arith}
 use lib.IntN.{pos}
 use Rattle.laws.proofs.ListLaws.{search_goes_on, search_ends_here, search_ends}

@@ -1,6 +1,5 @@
 -- `drift::write_results` meets its contract, what its invariant leaves to show.
 use mathlib.Core.Path.{refl, ◌∙◌}
-use Prim.Native.Nat.{◌-◌}
 use native.Mathlib.Omega.{arith}
 use lib.IntN.{pos}
 use Rattle.laws.proofs.ListLaws.{written_one_more, written_whole}

@@ -1,6 +1,5 @@
 -- `frequency::first_leaving` meets its contract, what its invariant leaves to show.
 use mathlib.Core.Path.{sym}
-use Prim.Native.Nat.{◌-◌}
 use native.Mathlib.Omega.{arith}
 use mir.Syntax.{w64}
 use mir.Facts.{to_z-of_z, of_z-to_z, Fits-of_z}

@@ -1,6 +1,5 @@
 -- `frequency::write_differences` meets its contract, what its invariant leaves to show.
 use mathlib.Core.Path.{refl, ◌∙◌}
-use Prim.Native.Nat.{◌-◌}
 use native.Mathlib.Omega.{arith}
 use lib.ListN.{length-set}
 use mir.Syntax.{w64}

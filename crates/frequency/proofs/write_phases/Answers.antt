@@ -1,5 +1,4 @@
 -- `frequency::write_phases` meets its contract, what its invariant leaves to show.
-use Prim.Native.Nat.{◌-◌}
 use native.Mathlib.Omega.{arith}
 use lib.ListN.{length-set}
 use mir.Syntax.{w64}

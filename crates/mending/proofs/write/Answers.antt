@@ -4,7 +4,7 @@ use mathlib.Core.List.{◌++◌}
 use Prim.Native.Nat.{◌≤◌, ◌<◌}
 use native.Mathlib.Omega.{arith}
 use lib.ListN.{length, take, drop, length-append}
-use lib.Seq.{length-take-le, take-length, lt-length-set}
+use lib.Seq.{length-take-le, lt-length-set}
 use Rattle.mending.proofs.write.Goals as goal
 use Rattle.mending.proofs.write.Goals.{After-copy, After-slice_known-1}
 

@@ -1,5 +1,4 @@
 -- `noise::bound_of` meets its contract, what its invariant leaves to show.
-use Prim.Native.Nat.{◌-◌}
 use native.Mathlib.Omega.{arith}
 use Rattle.noise.proofs.NoiseLaws.{search_starts, bound_found, bound_passed, no_bound_found}
 use Rattle.noise.proofs.bound_of.Goals as goal

@@ -1,5 +1,5 @@
 -- `record::first_outside` meets its contract, what its invariant leaves to show.
-use Rattle.std.proofs.Common.{◌-◌, pos, sym, arith}
+use Rattle.std.proofs.Common.{pos, sym, arith}
 use Rattle.laws.proofs.ListLaws.{search_goes_on, search_ends_here, search_ends}
 use Rattle.record.specs.Refusals.{in_range}
 use Rattle.record.proofs.RangeLaws.{loaded_in_range}

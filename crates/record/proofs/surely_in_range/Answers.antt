@@ -1,5 +1,5 @@
 -- `record::surely_in_range` meets its contract, what its invariant leaves to show.
-use Rattle.std.proofs.Common.{◌-◌, arith, leb-true}
+use Rattle.std.proofs.Common.{arith, leb-true}
 use Rattle.record.proofs.SurePass.{one_more_passed, passed_in_range}
 use Rattle.record.proofs.surely_in_range.Goals as goal
 

@@ -1,6 +1,5 @@
 -- `listing::columns::put` meets its contract.
 use mathlib.Core.Path.{refl}
-use Prim.Native.Nat.{ℕ, ◌+◌}
 use native.Mathlib.Omega.{arith}
 use Rattle.laws.proofs.AppendLaws.{list_appended}
 use Rattle.listing.proofs.ColumnLaws.{part_copied}

@@ -13,12 +13,11 @@ Three c =
     (in_range c.args.one ≡ true) × (in_range c.args.two ≡ true) × (in_range c.args.three ≡ true)
 
 three : (c : Then-in_range-3) → Three c
-three c =
-    (
-      loaded_in_range c.args.one c.ranges.one.sfits c.in_range.ensures c.if-in_range.true,
-      loaded_in_range c.args.two c.ranges.two.sfits c.in_range-then-in_range.ensures c.if-in_range-2.true,
-      loaded_in_range c.args.three c.ranges.three.sfits c.in_range-then-in_range-2.ensures c.if-in_range-3.true,
-    )
+three c = (
+  loaded_in_range c.args.one c.ranges.one.sfits c.in_range.ensures c.if-in_range.true,
+  loaded_in_range c.args.two c.ranges.two.sfits c.in_range-then-in_range.ensures c.if-in_range-2.true,
+  loaded_in_range c.args.three c.ranges.three.sfits c.in_range-then-in_range-2.ensures c.if-in_range-3.true,
+)
 
 pub returns-then-n-eq-MOST_SAMPLES : goal.returns-then-n-eq-MOST_SAMPLES
 returns-then-n-eq-MOST_SAMPLES c = let good = three (goal.at.returns-then-n-eq-MOST_SAMPLES c).Then-in_range-3 in sym (simp (good.0, good.1, good.2, eq-eqb _ 32768 c.if-n-eq-MOST_SAMPLES.true))

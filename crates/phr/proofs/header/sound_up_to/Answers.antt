@@ -1,5 +1,5 @@
 -- `phr::header::sound_up_to` meets its contract, what its invariant leaves to show.
-use Rattle.std.proofs.Common.{◌-◌, sym, ◌∙◌, arith}
+use Rattle.std.proofs.Common.{sym, ◌∙◌, arith}
 use Rattle.phr.specs.Reading.{tests_of}
 use Rattle.phr.proofs.HeaderLaws.{tests_up_to, tests_go_on, wrong_here, bytes_end, tests_end}
 use Rattle.phr.proofs.header.sound_up_to.Goals as goal

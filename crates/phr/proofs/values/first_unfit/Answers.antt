@@ -1,6 +1,5 @@
 -- `phr::values::first_unfit` meets its contract, what its invariant leaves to show.
-use Rattle.std.proofs.Common.{◌-◌, arith}
-use Rattle.phr.specs.File.{value_in_range}
+use Rattle.std.proofs.Common.{arith}
 use Rattle.phr.proofs.RangeSearch.{value_passes, value_fails, no_value_fails}
 use Rattle.phr.proofs.SignLaws.{loaded_value}
 use Rattle.phr.proofs.values.first_unfit.Goals as goal

@@ -1,5 +1,5 @@
 -- `phr::values::read_values` meets its contract, what its invariant leaves to show.
-use Rattle.std.proofs.Common.{◌-◌, pos, refl, ◌∙◌, arith, length-set}
+use Rattle.std.proofs.Common.{pos, refl, ◌∙◌, arith, length-set}
 use Rattle.laws.proofs.ListLaws.{written_one_more, written_whole}
 use Rattle.phr.proofs.ValueLaws.{values_from_length, values_from_inside, values_from_entry}
 use Rattle.phr.proofs.values.read_values.Goals as goal

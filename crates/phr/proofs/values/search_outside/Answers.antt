@@ -1,6 +1,5 @@
 -- `phr::values::search_outside` meets its contract, what its invariant leaves to show.
-use Rattle.std.proofs.Common.{◌-◌, arith}
-use Rattle.phr.specs.File.{value_in_range}
+use Rattle.std.proofs.Common.{arith}
 use Rattle.phr.proofs.RangeSearch.{value_passes, value_fails, no_value_fails}
 use Rattle.phr.specs.Bytes.{values_from}
 use Rattle.phr.proofs.ValueLaws.{values_from_length, values_from_inside, values_from_entry}

@@ -1,5 +1,5 @@
 -- `phr::values::surely_in_range` meets its contract, what its invariant leaves to show.
-use Rattle.std.proofs.Common.{◌-◌, arith, leb-true}
+use Rattle.std.proofs.Common.{arith, leb-true}
 use Rattle.laws.proofs.Words.{one_more_reached}
 use Rattle.phr.proofs.RangeCases.{end_within}
 use Rattle.phr.proofs.RangePass.{moved_up, all_in_range}

@@ -1,5 +1,5 @@
 -- `phr::values::write_values` meets its contract, what its invariant leaves to show.
-use Rattle.std.proofs.Common.{◌-◌, refl, ◌∙◌, arith}
+use Rattle.std.proofs.Common.{refl, ◌∙◌, arith}
 use Rattle.phr.proofs.SignLaws.{loaded_value}
 use Rattle.phr.proofs.ValueLaws.{values_none_written, values_one_more_written, values_all_written}
 use Rattle.phr.proofs.values.write_values.Goals as goal

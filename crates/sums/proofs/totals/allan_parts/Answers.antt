@@ -1,6 +1,5 @@
 -- `sums::totals::allan_parts` meets its contract, what its invariant leaves to show.
 use mathlib.Core.Path.{ap, ◌∙◌}
-use Prim.Native.Nat.{◌-◌}
 use native.Mathlib.Omega.{arith}
 use Rattle.record.proofs.RefusalLaws.{none_sound, record_in_range}
 use Rattle.sums.specs.Answers.{allan_demand}

@@ -1,6 +1,5 @@
 -- `sums::totals::first_window` meets its contract, what its invariant leaves to show.
 use mathlib.Core.Path.{◌≡◌, sym, ap, ◌∙◌}
-use Prim.Native.Nat.{◌-◌}
 use native.Mathlib.Omega.{arith}
 use mir.Syntax.{w64}
 use mir.Val.{of_z}

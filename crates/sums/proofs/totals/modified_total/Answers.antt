@@ -1,9 +1,7 @@
 -- `sums::totals::modified_total` meets its contract, what its invariant leaves to show.
 use mathlib.Core.Path.{ap, ◌∙◌}
-use Prim.Native.Nat.{◌+◌, ◌-◌}
+use Prim.Native.Nat.{◌+◌}
 use native.Mathlib.Omega.{arith}
-use mir.Syntax.{w64}
-use mir.Val.{of_z}
 use Rattle.wide.specs.Wide.{halves}
 use Rattle.record.proofs.RefusalLaws.{none_sound}
 use Rattle.sums.specs.Answers.{modified_demand}
@@ -35,13 +33,12 @@ pub loop-j-smaller : goal.loop-j-smaller
 loop-j-smaller c = omega arith
 
 pub loop-j-preserved : goal.loop-j-preserved
-loop-j-preserved c =
-    (
-      omega arith,
-      omega arith,
-      window_read _ _ c.requires (c.loop-j.j + 1) c.slid-window.ensures,
-      modified_grows _ _ c.requires (c.loop-j.j + 1) (omega arith) c.loop-j.invariant.3 c.slid-window.ensures c.with_square-total.ensures,
-    )
+loop-j-preserved c = (
+  omega arith,
+  omega arith,
+  window_read _ _ c.requires (c.loop-j.j + 1) c.slid-window.ensures,
+  modified_grows _ _ c.requires (c.loop-j.j + 1) (omega arith) c.loop-j.invariant.3 c.slid-window.ensures c.with_square-total.ensures,
+)
 
 pub returns : goal.returns
 returns c =

@@ -1,10 +1,8 @@
 -- `sums::totals::whole_blocks` meets its contract, what its invariant leaves to show.
 use mathlib.Core.Path.{refl, sym, ap, ◌∙◌}
-use Prim.Native.Nat.{◌+◌, ◌-◌}
+use Prim.Native.Nat.{◌+◌}
 use native.Mathlib.Omega.{arith}
 use lib.ListN.{length}
-use mir.Syntax.{w64}
-use mir.Val.{of_z}
 use Rattle.laws.proofs.SumLaws.{sum_zero}
 use Rattle.wide.specs.Wide.{halves}
 use Rattle.record.proofs.RefusalLaws.{none_sound, record_in_range}

@@ -1,6 +1,6 @@
 -- `sums::totals::write_gains` meets its contract, what its invariant leaves to show.
 use mathlib.Core.Path.{refl, sym, ◌∙◌}
-use Prim.Native.Nat.{◌+◌, ◌-◌}
+use Prim.Native.Nat.{◌+◌}
 use native.Mathlib.Omega.{arith}
 use lib.IntN.{pos}
 use Rattle.laws.proofs.ListLaws.{written_one_more, written_over}
