@@ -127,13 +127,14 @@ def public_files(house, crate, path="lib.rt"):
 
 
 def public_functions(house):
-    """Of every library crate: what other crates can call, and what is exported to C."""
-    found = []
+    """Of every library crate: what other crates can call, and what the static library exports to C."""
+    found, static = [], re.findall(r"^(\w+) staticlib\b", house.text("crates.txt"), re.M)
     for crate in (path.split("/")[1] for path in house.files("crates/*/src/lib.rt")):
         paths = house.files(f"crates/{crate}/src/**/*.rt")
         public, text = set(public_files(house, crate)), "".join(source(house, path) for path in paths)
         for path in paths:
             for f in functions_in(house, crate, path):
+                f = f._replace(exported=f.exported and crate in static)
                 reached = path in public and (not f.owner or re.search(rf"\bpub (struct|enum) {f.owner}\b", text))
                 found += [f] if reached or f.exported else []
     house.seen["functions"] |= {told(f) for f in found}

@@ -78,7 +78,7 @@ CASES = [
      "pub fn plg_time_fraction of crates/ploegelster_c/src/published.rt has value from Rattle.wide.specs.Halves.value, and"),
     (PUBLISHED, "use wide::Wide;", "use laws::Wide;",
      "pub fn plg_time_fraction of crates/ploegelster_c/src/published.rt has Wide from crates/laws/src/lib.rt, and"),
-    (ENTRIES, "pub fn plg_time_fraction", "pub(crate) fn plg_time_fraction",
+    (ENTRIES, '#[unsafe(no_mangle)]\npub extern "C" fn plg_time_fraction', "fn plg_time_fraction",
      "pub fn plg_time_fraction of crates/ploegelster_c/src/published.rt has 0 public functions of its own name"),
     (HEADER, "plg_drawn_answer plg_drawn_number(uint64_t r);", "", "plg_drawn_number is exported and not declared in include/ploegelster.h"),
     (HEADER, "plg_drawn_answer plg_drawn_number(", "plg_drawn_answer plg_spare(uint64_t r);\nplg_drawn_answer plg_drawn_number(",
