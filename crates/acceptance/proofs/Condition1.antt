@@ -2,8 +2,7 @@
 -- the same arguments are equal, and so is what is left of each lent buffer (Single); beside a refusal every other value is nought, a lent buffer and a
 -- meter are as they came (NAME-settled); the entries of a buffer past the output are never changed, refused or not (NAME-past). Single and Always
 -- stand in crates/laws/specs/Single.antt, the noughts in specs/Noughts.antt. When exactly a call is refused, by which number at which place, is told by
--- Grounds.antt. No public function has a `requires`, and none is an exception but that a slice
--- handed back, quieter's, is one in what a program sees of it (SingleSeen): its ghost name is left open.
+-- Grounds.antt. No public function has a `requires`, and none is an exception.
 use mathlib.Core.Path.{◌≡◌, refl, sym, ap, ◌∙◌}
 use Prim.Native.Nat.{ℕ, ◌+◌, ◌-◌, ◌*◌, ◌/◌, ◌%◌, ◌≤◌, ◌<◌}
 use native.Mathlib.Omega.{arith}
