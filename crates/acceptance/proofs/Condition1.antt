@@ -35,7 +35,7 @@ use Rattle.wide.proofs.root.Kinds as wide-root-kinds
 use Rattle.wide.proofs.square_at_most.Reads as wide-square-at-most
 use Rattle.wide.proofs.square_at_most.Kinds as wide-square-at-most-kinds
 use Rattle.record.proofs.Unique.{in_range_single, range_refusal_single, size_refusal_single, record_refusal_single, refused_count_single}
-use Rattle.record.proofs.in_range.Reads as in_range_lem
+use Rattle.record.proofs.in_range.Reads as in-range
 use Rattle.record.proofs.in_range.Kinds as in-range-kinds
 use Rattle.record.proofs.range_refusal.Reads as range-refusal
 use Rattle.record.proofs.range_refusal.Kinds as range-refusal-kinds
@@ -239,7 +239,7 @@ wide_square_at_most_one_answer = square_at_most_single
 
 -- ---- record: the checks; what they answer is a test, a refusal, or a refusal beside nought
 
-pub in_range_one_answer : Single 0 in-range-kinds.ps in-range-kinds.r in_range_lem.Post
+pub in_range_one_answer : Single 0 in-range-kinds.ps in-range-kinds.r in-range.Post
 in_range_one_answer = in_range_single
 
 pub range_refusal_one_answer : Single 1 range-refusal-kinds.ps range-refusal-kinds.r range-refusal.Post

@@ -279,9 +279,9 @@ phase_to_frequency_to_record κs args z w is answered κs' args' z' w' is' first
     let some : length xs ≡ 0 → ⊥ = λ e. rowless 1 0 (Grounds.no_sample e) in
     let few : 32768 < length xs → ⊥ = λ h. rowless 2 0 (Grounds.many h) in
     let enough : length args.1.0.now < length xs - 1 → ⊥ = λ h. rowless 6 0 (Grounds.no_room (omega arith, omega arith) h) in
-    let in_range_lem = sym (range_decides xs _ (omega arith) some (omega arith)) ∙ nothing in
+    let in_range = sym (range_decides xs _ (omega arith) some (omega arith)) ∙ nothing in
     let written : args'.1.0.now ≡ differences xs = read ∙ rw (is.0, is.1) (differences_left xs args.1.0.now nothing) in
-    rw (is'.0, is'.1, first, written) (record_given_back xs (omega arith) (omega arith) args'.1.1.0.now room in_range_lem)
+    rw (is'.0, is'.1, first, written) (record_given_back xs (omega arith) (omega arith) args'.1.1.0.now room in_range)
 
 -- Frequency, to phase from any start, to frequency: what the first call wrote is read by the second, which is answered and gives the readings back.
 pub frequency_to_phase_to_frequency_from_start : Always 2 phase-from-start-kinds.ps phase-from-start-kinds.r phase-from-start.Post

@@ -80,7 +80,7 @@ starred_figures = record {
   at_the_bound = (refl, refl);
   past_the_bound = (refl, refl);
   file = (refl, refl);
-  file_from_lem = (refl, refl);
+  file_from_start = (refl, refl);
   squares_sheet = refl;
 }
 

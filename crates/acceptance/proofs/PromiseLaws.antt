@@ -216,8 +216,8 @@ module _ (xs : List ℤ) (some : 0 < length xs) (few : length xs ≤ 32768) wher
   pub record_given_back : (other : List ℤ) → length xs ≤ length other → range_refusal xs ≡ none →
       GivenBack xs (buffer_left (phase_refusal_from (at xs 0) (differences xs) (length other)) (phases_from (at xs 0) (differences xs)) other)
       (count_answer (phase_refusal_from (at xs 0) (differences xs) (length other)) (length (differences xs) + 1))
-  record_given_back other room in_range_lem =
-      given_back (record_unrefused xs some (length other) few room in_range_lem) (length (differences xs) + 1) (phases_from (at xs 0) (differences xs)) other
+  record_given_back other room in_range =
+      given_back (record_unrefused xs some (length other) few room in_range) (length (differences xs) + 1) (phases_from (at xs 0) (differences xs)) other
       (record_again xs some) (omega (arith, differences_length xs))
 
 module _ (start : ℤ) (ys : List ℤ) where
@@ -262,7 +262,7 @@ module _ (xs : List ℤ) where
 
     pub result_of_lem : (i : ℕ) → i < length xs → DriftRemoved slope square_of_half i (at xs i) (at (without_drift xs) i)
     result_of_lem i inside = record {
-      not_above_lem = rw (taken_off i inside) (floored_at_most _ divisor_some _);
+      not_above = rw (taken_off i inside) (floored_at_most _ divisor_some _);
       next_above = rw (taken_off i inside) (one_more_above _ divisor_some _);
     }
 
@@ -277,7 +277,7 @@ module _ (xs : List ℤ) where
 -- a sample without a drift is one number
 pub one_result : {P : ℤ} {R i : ℕ} {x y y' : ℤ} → 0 < 2 * R → DriftRemoved P R i x y → DriftRemoved P R i x y' → y' ≡ y
 one_result {x = x} {y = y} {y' = y'} some one other =
-    let off : x -ℤ y' ≡ x -ℤ y = sym (floored_only _ some _ _ other.not_above_lem other.next_above) ∙ floored_only _ some _ _ one.not_above_lem one.next_above in
+    let off : x -ℤ y' ≡ x -ℤ y = sym (floored_only _ some _ _ other.not_above other.next_above) ∙ floored_only _ some _ _ one.not_above one.next_above in
     equal_by_parts y' y (omega (arith, parts_of_equal off, sound ($ x ⊖ $ y'), sound ($ x ⊖ $ y)))
 
 -- where N is even, records that are the same but for the last sample have one P
@@ -315,7 +315,7 @@ module _ (a b c : ℤ) where
       let t = i * (i - 1) / 2 in
       let off = ($ line i ⊕ $ c ⊗ # t) ⊖ $ line i in
       record {
-        not_above_lem =
+        not_above =
             subst (λ (n : ℕ). ((bent i -ℤ line i) *ℤ pos (2 * R)) ≤ℤ ((c *ℤ pos R) *ℤ pos n)) (triangle_is i)
             (at_most (off ⊗ # (2 * R)) ($ c ⊗ # R ⊗ # (2 * t)) (omega arith));
         next_above =
@@ -423,7 +423,7 @@ module _ (bytes : List ℕ) (room : ℕ) (all : AreBytes bytes) where
 
 -- what a file may hold is not refused where there is room for the file
 pub proper_writable : {kind : ℕ} {values : List ℤ} {room : ℕ} → Proper kind values → 8 + 8 * length values ≤ room → Writable 8 kind values room
-proper_writable proper enough = record { known = proper.known; few = proper.few; enough = enough; in_range_lem = proper.in_range_lem }
+proper_writable proper enough = record { known = proper.known; few = proper.few; enough = enough; in_range = proper.in_range }
 
 module _ (kind : ℕ) (values : List ℤ) where
   -- what writing leaves at the front of the buffer is the file
@@ -439,7 +439,7 @@ module _ (kind : ℕ) (values : List ℤ) where
   pub written_proper : (room : ℕ) → write_refusal kind values room ≡ none → Proper kind values
   written_proper room nothing =
       let writable = unrefused_writable kind values room (rw nothing) in
-      record { known = writable.known; few = writable.few; in_range_lem = writable.in_range_lem }
+      record { known = writable.known; few = writable.few; in_range = writable.in_range }
 
   -- reading it gives the kind and the values
   pub reads_back : (buffer : List ℤ) → Proper kind values → length values ≤ length buffer →
@@ -518,7 +518,7 @@ module _ (bytes : List ℕ) (first : get_or bytes 3 0 ≡ 2 → ⊥) where
 -- the file of one value that takes six bytes and is beyond a sample's range
 one_value_proper : Proper 1 (pos 0x10203040506 ∷ [])
 unfolding most_values value_in_range
-one_value_proper = record { known = omega arith; few = omega arith; in_range_lem = λ i inside. let first : i ≡ 0 = omega arith in rw first refl }
+one_value_proper = record { known = omega arith; few = omega arith; in_range = λ i inside. let first : i ≡ 0 = omega arith in rw first refl }
 
 pub one_value_unrefused : (room : ℕ) → 16 ≤ room → write_refusal 1 (pos 0x10203040506 ∷ []) room ≡ none
 one_value_unrefused room enough = writable_none 1 _ room (proper_writable one_value_proper enough)
@@ -629,7 +629,7 @@ module _ (m : ℕ) (xs : List ℤ) where
 pub drawn_of : (r : ℕ) → NoRow (OfDrawn r) → GreatestDouble r (drawn_answer r).value
 drawn_of r rowless =
     let not_below : r < 1 → ⊥ = λ below. rowless 3 0 (Grounds.range (inl below)) in
-    let not_above_lem : 2 ^ 63 < r → ⊥ = λ above. rowless 3 0 (Grounds.range (inr above)) in
+    let not_above : 2 ^ 63 < r → ⊥ = λ above. rowless 3 0 (Grounds.range (inr above)) in
     let least : 1 ≤ r = omega arith in
     let most : r ≤ 2 ^ 63 = omega arith in
     rw (drawn_given r least most) (drawn_is_greatest least most)
@@ -708,7 +708,7 @@ kappa_below Promises.random_walk_frequency = omega arith
 -- where no row of the table holds, r is at least 1 and M at least 10, and every kappa is below 100: so h is below r
 pub half_below_deviation : (r : ℕ) (alpha : ℤ) (m : ℕ) → NoRow (OfBars r alpha m) → {h : ℕ} → HalfOf r alpha m h → h < r
 half_below_deviation r alpha m no_row half =
-    let typed : 2 < nat_abs alpha → ⊥ = λ beyond. no_row _ _ (Grounds.no_type_lem beyond) in
+    let typed : 2 < nat_abs alpha → ⊥ = λ beyond. no_row _ _ (Grounds.no_type beyond) in
     let some : r ≡ 0 → ⊥ = λ nought. no_row _ _ (Grounds.nought (omega arith) nought) in
     let most : 2 ^ 62 < r → ⊥ = λ large. no_row _ _ (Grounds.above (omega arith) large) in
     let enough : m < 10 → ⊥ = λ few. no_row _ _ (Grounds.few (omega arith) (omega arith, omega arith) few) in

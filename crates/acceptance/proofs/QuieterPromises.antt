@@ -44,7 +44,7 @@ which_told m xs ys = by_number (eqb (quieter_refusal m xs ys).number 0) refl
 pub quieter_of : (m : ℕ) (xs ys : List ℤ) → (quieter_answer m xs ys).number ≡ 0 → QuieterOf m xs ys (quieter_answer m xs ys).which
 unfolding not_above allan_denominator allan_count
 quieter_of m xs ys answered = record {
-  not_above_lem = λ below. which_told m xs ys answered ∙ ap (λ (t : Bool). cond t 1 2) (le-leb _ _ below);
+  not_above = λ below. which_told m xs ys answered ∙ ap (λ (t : Bool). cond t 1 2) (le-leb _ _ below);
   above = λ over. which_told m xs ys answered ∙ ap (λ (t : Bool). cond t 1 2) (lt-leb _ _ over);
 }
 
@@ -105,7 +105,7 @@ pub by_fractions : (m : ℕ) (xs ys : List ℤ) {which p1 q1 p2 q2 : ℕ} → 0 
     FractionOf (allan_sum m xs) (2 * (m * m) * (length xs - 2 * m)) p1 q1 → FractionOf (allan_sum m ys) (2 * (m * m) * (length ys - 2 * m)) p2 q2 →
     (p1 * q2 ≤ p2 * q1 → which ≡ 1) × (p2 * q1 < p1 * q2 → which ≡ 2)
 by_fractions m xs ys {which} {p1} {q1} {p2} {q2} some some-too quieter one two =
-    (λ below. quieter.not_above_lem (order_kept some some-too one two below), λ over. by_order over (dec_le a b))
+    (λ below. quieter.not_above (order_kept some some-too one two below), λ over. by_order over (dec_le a b))
   where
     a : ℕ
     a = allan_sum m xs * (2 * (m * m) * (length ys - 2 * m))

@@ -40,7 +40,7 @@ module _ (bytes : List ℕ) where
 
   pub text_of : TextOf bytes (record_text bytes)
   text_of = record {
-    refused_line_lem = λ row. let stands = (sheet_agrees bytes).stands row in sym (text_of_refused bytes _ _ stands.0 stands.1);
+    line_of_refusal = λ row. let stands = (sheet_agrees bytes).stands row in sym (text_of_refused bytes _ _ stands.0 stands.1);
     lines = λ rowless ms all. sym (text_of_lines bytes (clear_number rowless)) ∙ ap (lines_of (samples_of bytes)) (all_factors rowless ms all);
   }
 

@@ -82,14 +82,14 @@ module _ (r : ℕ) (alpha : ℤ) (m : ℕ) where
   -- an alpha that no type has
   module _ (beyond : 2 < nat_abs alpha) where
     beyond_stands : {number place : ℕ} → OfBars r alpha m number place → Stands number place (refused 3 0)
-    beyond_stands (Grounds.no_type_lem h) = (λ e. omega arith, refl)
+    beyond_stands (Grounds.no_type h) = (λ e. omega arith, refl)
     beyond_stands (Grounds.nought within h) = absurd (omega arith)
     beyond_stands (Grounds.above within h) = absurd (omega arith)
     beyond_stands (Grounds.few within h k) = absurd (omega arith)
     beyond_stands (Grounds.many within h k) = absurd (omega arith)
 
     beyond_agrees : Agrees (OfBars r alpha m) (refused 3 0)
-    beyond_agrees = record { stands = beyond_stands; decided = something (λ e. omega arith) (Grounds.no_type_lem beyond) }
+    beyond_agrees = record { stands = beyond_stands; decided = something (λ e. omega arith) (Grounds.no_type beyond) }
 
     no_type_grounded : Grounded (OfBars r alpha m) no_such_type.number no_such_type.place
     unfolding no_such_type
@@ -98,7 +98,7 @@ module _ (r : ℕ) (alpha : ℤ) (m : ℕ) where
   -- an alpha of some type
   module _ (within : nat_abs alpha ≤ 2) where
     bars_stand : {number place : ℕ} → OfBars r alpha m number place → Stands number place (bars_refusal r m)
-    bars_stand (Grounds.no_type_lem h) = absurd (omega arith)
+    bars_stand (Grounds.no_type h) = absurd (omega arith)
     bars_stand (Grounds.nought h is) = (λ e. omega arith, bar.deviation_nought r m is)
     bars_stand (Grounds.above h large) = (λ e. omega arith, bar.deviation_too_large r m (λ e. omega arith) large)
     bars_stand (Grounds.few h between few) = (λ e. omega arith, bar.too_few r m (λ e. omega arith) between.1 few)

@@ -175,7 +175,7 @@ pub data OfRecordType (m : ℕ) (xs : List ℤ) : ℕ → ℕ → Type 0 where
 
 -- bars, of a type by its alpha: the types are those of alpha -2 to 2
 pub data OfBars (r : ℕ) (alpha : ℤ) (M : ℕ) : ℕ → ℕ → Type 0 where
-  no_type_lem : 2 < nat_abs alpha → OfBars r alpha M 3 0
+  no_type : 2 < nat_abs alpha → OfBars r alpha M 3 0
   nought : nat_abs alpha ≤ 2 → r ≡ 0 → OfBars r alpha M 8 0
   above : nat_abs alpha ≤ 2 → 2 ^ 62 < r → OfBars r alpha M 3 0
   few : nat_abs alpha ≤ 2 → Between 1 (2 ^ 62) r → M < 10 → OfBars r alpha M 1 0

@@ -71,7 +71,7 @@ pub record FractionOf (a d numerator denominator : ℕ) : Type 0 where
 
 -- the first where its Allan variance A1 / (2 m^2 K1) is not above the second's, A2 / (2 m^2 K2), K being N-2m; else the second
 pub record QuieterOf (m : ℕ) (first second : List ℤ) (which : ℕ) : Type 0 where
-  pub not_above_lem : allan_sum m first * (2 * (m * m) * (length second - 2 * m)) ≤ allan_sum m second * (2 * (m * m) * (length first - 2 * m)) → which ≡ 1
+  pub not_above : allan_sum m first * (2 * (m * m) * (length second - 2 * m)) ≤ allan_sum m second * (2 * (m * m) * (length first - 2 * m)) → which ≡ 1
   pub above : allan_sum m second * (2 * (m * m) * (length first - 2 * m)) < allan_sum m first * (2 * (m * m) * (length second - 2 * m)) → which ≡ 2
 
 -- ---- phase and frequency
@@ -147,7 +147,7 @@ pub record BarsOf (r : ℕ) (alpha : ℤ) (M : ℕ) (z : BarsAnswer) : Type 0 wh
 
 -- y is sample x_i without the drift P over R: q = x_i - y is the floor of P i (i-1) / (2R) toward minus infinity, 2R q is not above P i (i-1), 2R (q+1) is
 pub record DriftRemoved (P : ℤ) (R i : ℕ) (x y : ℤ) : Type 0 where
-  pub not_above_lem : ((x -ℤ y) *ℤ pos (2 * R)) ≤ℤ (P *ℤ pos (i * (i - 1)))
+  pub not_above : ((x -ℤ y) *ℤ pos (2 * R)) ≤ℤ (P *ℤ pos (i * (i - 1)))
   pub next_above : (P *ℤ pos (i * (i - 1))) <ℤ (((x -ℤ y) +ℤ pos 1) *ℤ pos (2 * R))
 
 -- a line and a constant drift: x_i = a + b i + c i (i-1) / 2
@@ -220,7 +220,7 @@ pub record LeavesMore (more : ℕ) (z z' : SalvageAnswer) (left left' : List ℕ
 
 -- the text of a record: the line of its refusal where it is refused as a whole, else the lines of all its factors
 pub record TextOf (bytes text : List ℕ) : Type 0 where
-  pub refused_line_lem : {n p : ℕ} → OfSheet bytes n p → text ≡ refused_line (refused n p)
+  pub line_of_refusal : {n p : ℕ} → OfSheet bytes n p → text ≡ refused_line (refused n p)
   pub lines : NoRow (OfSheet bytes) → (ms : List ℕ) → AllFactors (length (samples_of bytes)) ms → text ≡ lines_of (samples_of bytes) ms
 
 -- the totals with a record: as they were where it is refused as a whole, else with K and C of all its factors more

@@ -30,7 +30,7 @@ module _ (bytes : List ℕ) (room : ℕ) (s : Salvageable bytes room) where
   kept_proper = record {
     known = kind_passed (λ b. eqb b 1 || eqb b 2) bytes s.header.sound;
     few = omega (arith, kept_length bytes, first_bad_within bytes, s.few);
-    in_range_lem = (kept_longest bytes).good;
+    in_range = (kept_longest bytes).good;
   }
 
   start_proper : ProperStart (kind_of bytes) (start_of bytes)
@@ -69,7 +69,7 @@ module _ (bytes : List ℕ) (all : AreBytes bytes) (room : ℕ) (accepted : read
 
   none_bad : first_bad bytes ≡ count_of bytes
   unfolding first_bad
-  none_bad = rw present_are (none_fails (value_in_range (kind_of bytes)) (pos 0) (record_values bytes) readable.in_range_lem ∙ record_values_length bytes)
+  none_bad = rw present_are (none_fails (value_in_range (kind_of bytes)) (pos 0) (record_values bytes) readable.in_range ∙ record_values_length bytes)
 
   kept_all : kept_values bytes ≡ record_values bytes
   unfolding kept_values

@@ -144,7 +144,7 @@ module _ (w m : ℕ) (some : 1 ≤ m) where
   pub half_not_above : {h : ℕ} → Greatest (λ h. leb (h * h * m) (w * w)) h → h ≤ w
   half_not_above {h} is =
       let within : h * h * m ≤ w * w = leb→le _ _ is.passes in
-      let not_above_lem : w < h → ⊥ = λ above. omega (arith, product_below h w w above above, mul-le-mul_left (h * h) some) in
+      let not_above : w < h → ⊥ = λ above. omega (arith, product_below h w w above above, mul-le-mul_left (h * h) some) in
       omega arith
 
 -- ---- of a deviation r up to 2^62 with noise of a type over M intervals, M above nought

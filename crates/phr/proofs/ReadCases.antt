@@ -125,7 +125,7 @@ module _ (head : ℕ) (bytes : List ℕ) (room : ℕ) where
 pub record Readable (bytes : List ℕ) (room : ℕ) : Type 0 where
   pub sound : 8 ≤ sound_up_to header_tests bytes
   pub counted : Counted 8 bytes room
-  pub in_range_lem : AllInRange (kind_of bytes) (values_of bytes)
+  pub in_range : AllInRange (kind_of bytes) (values_of bytes)
 
 module _ (bytes : List ℕ) (room : ℕ) where
   pub header_wrong : sound_up_to header_tests bytes < 8 → read_refusal bytes room ≡ refused 9 (sound_up_to header_tests bytes)
@@ -137,7 +137,7 @@ module _ (bytes : List ℕ) (room : ℕ) where
   header_sound h = simp (le-ltb (sound_up_to header_tests bytes) 8 h)
 
   pub readable_none : Readable bytes room → read_refusal bytes room ≡ none
-  readable_none r = header_sound r.sound ∙ rw (counted_none 8 bytes room r.counted) (in_range_none (kind_of bytes) (values_of bytes) r.in_range_lem)
+  readable_none r = header_sound r.sound ∙ rw (counted_none 8 bytes room r.counted) (in_range_none (kind_of bytes) (values_of bytes) r.in_range)
 
   pub unrefused_readable : (read_refusal bytes room).number ≡ 0 → Readable bytes room
   unfolding read_refusal
@@ -148,7 +148,7 @@ module _ (bytes : List ℕ) (room : ℕ) where
       let after_header = rest_refuses_nothing header (count then values) e in record {
         sound = ltb-false (sound_up_to header_tests bytes) 8 (test_fails _ 9 _ (omega arith) (first_refuses_nothing header (count then values) e));
         counted = unrefused_counted 8 bytes room (first_refuses_nothing count values after_header);
-        in_range_lem = unrefused_in_range (kind_of bytes) (values_of bytes) (rest_refuses_nothing count values after_header);
+        in_range = unrefused_in_range (kind_of bytes) (values_of bytes) (rest_refuses_nothing count values after_header);
       }
 
 -- ---- either version
@@ -162,7 +162,7 @@ pub record ReadableRecord (bytes : List ℕ) (room : ℕ) : Type 0 where
   pub header : SoundHeader bytes
   pub counted : Counted (head_length bytes) bytes room
   pub start_in_range : in_range (start_of bytes) ≡ true
-  pub in_range_lem : AllInRange (kind_of bytes) (record_values bytes)
+  pub in_range : AllInRange (kind_of bytes) (record_values bytes)
 
 module _ (bytes : List ℕ) where
   pub first_eight_wrong : sound_up_to either_tests bytes < 8 → header_refusal bytes ≡ refused 9 (sound_up_to either_tests bytes)
@@ -225,7 +225,7 @@ module _ (bytes : List ℕ) where
     unfolding read_record_refusal
     readable_record_none r =
         rw (sound_header_none r.header, counted_none (head_length bytes) bytes room r.counted, r.start_in_range)
-        (in_range_none (kind_of bytes) (record_values bytes) r.in_range_lem)
+        (in_range_none (kind_of bytes) (record_values bytes) r.in_range)
 
     pub unrefused_record : (read_record_refusal bytes room).number ≡ 0 → ReadableRecord bytes room
     unfolding read_record_refusal
@@ -238,5 +238,5 @@ module _ (bytes : List ℕ) where
           header = unrefused_header (first_refuses_nothing (header_refusal bytes) (count then start then values) e);
           counted = unrefused_counted (head_length bytes) bytes room (first_refuses_nothing count (start then values) after_header);
           start_in_range = not-false (in_range (start_of bytes)) (test_fails _ 3 0 (omega arith) (first_refuses_nothing start values after_count));
-          in_range_lem = unrefused_in_range (kind_of bytes) (record_values bytes) (rest_refuses_nothing start values after_count);
+          in_range = unrefused_in_range (kind_of bytes) (record_values bytes) (rest_refuses_nothing start values after_count);
         }

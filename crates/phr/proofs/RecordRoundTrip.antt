@@ -99,7 +99,7 @@ file_from_length kind start values = omega (arith, values_bytes_length values)
 
 -- a start that passes its two tests is one that a file may hold
 pub fits_proper : (kind : ℕ) (start : ℤ) → start_fits kind start ≡ true → in_range start ≡ true → ProperStart kind start
-fits_proper kind start fits near = record { in_range_lem = sample_bounded start near; of_phase = passes_fit kind start fits }
+fits_proper kind start fits near = record { in_range = sample_bounded start near; of_phase = passes_fit kind start fits }
 
 module _ (kind : ℕ) (start : ℤ) (values : List ℤ) (proper : Proper kind values) (proper_start : ProperStart kind start) where
   -- the first eight bytes and the rest
@@ -123,14 +123,14 @@ module _ (kind : ℕ) (start : ℤ) (values : List ℤ) (proper : Proper kind va
   start_comes_back =
       second_start (file_from kind start values) version_comes_back_from
       ∙ ap (λ (bytes : List ℕ). value_at bytes 8) begins
-      ∙ value_back (first_eight 2 kind (length values)) (values_bytes values) 8 start refl (small_fits start (omega (arith, proper_start.in_range_lem)))
+      ∙ value_back (first_eight 2 kind (length values)) (values_bytes values) 8 start refl (small_fits start (omega (arith, proper_start.in_range)))
 
   pub values_come_back_from : record_values (file_from kind start values) ≡ values
   unfolding record_values file_from header_from first_eight low_first
   values_come_back_from =
       rw (second_head (file_from kind start values) version_comes_back_from, count_comes_back_from)
       (ap (λ (bytes : List ℕ). values_from 16 (length values) (header_from kind start (length values) ++ bytes)) (sym (append-nil (values_bytes values)))
-      ∙ values_back values (header_from kind start (length values)) [] 16 refl (λ i h. in_range_fits kind (at values i) (proper.in_range_lem i h)))
+      ∙ values_back values (header_from kind start (length values)) [] 16 refl (λ i h. in_range_fits kind (at values i) (proper.in_range i h)))
 
   from_sound : sound_up_to either_tests (file_from kind start values) ≡ 8
   unfolding either_tests
@@ -150,8 +150,8 @@ module _ (kind : ℕ) (start : ℤ) (values : List ℤ) (proper : Proper kind va
       whole = file_from_length kind start values ∙ rw (head-is, count_comes_back_from);
       enough = rw count_comes_back_from enough;
     };
-    start_in_range = rw start_comes_back (bounded_sample start proper_start.in_range_lem);
-    in_range_lem = rw (kind_comes_back_from, values_come_back_from) proper.in_range_lem;
+    start_in_range = rw start_comes_back (bounded_sample start proper_start.in_range);
+    in_range = rw (kind_comes_back_from, values_come_back_from) proper.in_range;
   }
 
   -- and it is not refused, where the buffer has room for the values
@@ -169,7 +169,7 @@ pub unrefused_proper_from : (kind : ℕ) (start : ℤ) (values : List ℤ) (room
 unrefused_proper_from kind start values room unrefused =
     let w = unrefused_from kind start values room (ap (λ (r : Refusal). r.number) unrefused) in
     let held = w.writable in
-    (record { known = held.known; few = held.few; in_range_lem = held.in_range_lem }, fits_proper kind start w.fits_start w.start_in_range)
+    (record { known = held.known; few = held.few; in_range = held.in_range }, fits_proper kind start w.fits_start w.start_in_range)
 
 -- and the front of the buffer that it leaves is the file
 pub buffer_has_file_from : (kind : ℕ) (start : ℤ) (values : List ℤ) (buffer : List ℕ) → write_record_refusal kind start values (length buffer) ≡ none →
@@ -219,7 +219,7 @@ module _ (bytes : List ℕ) (all : AreBytes bytes) (room : ℕ) (second : versio
     proper = record {
       known = kind_passed (λ b. eqb b 1 || eqb b 2) bytes readable.header.sound;
       few = rw (record_values_length bytes) readable.counted.few;
-      in_range_lem = readable.in_range_lem;
+      in_range = readable.in_range;
     };
     proper_start = fits_proper (kind_of bytes) (start_of bytes) readable.header.fits_start readable.start_in_range;
     enough = rw (record_values_length bytes) readable.counted.enough;

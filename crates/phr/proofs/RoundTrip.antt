@@ -112,7 +112,7 @@ module _ (kind : ℕ) (values : List ℤ) (proper : Proper kind values) where
   values_come_back =
       rw count_comes_back
       (ap (λ (bytes : List ℕ). values_from 8 (length values) (header kind (length values) ++ bytes)) (sym (append-nil (values_bytes values)))
-      ∙ values_back values (header kind (length values)) [] 8 refl (λ i h. in_range_fits kind (at values i) (proper.in_range_lem i h)))
+      ∙ values_back values (header kind (length values)) [] 8 refl (λ i h. in_range_fits kind (at values i) (proper.in_range i h)))
 
   file_readable : (room : ℕ) → length values ≤ room → Readable (file_of kind values) room
   file_readable room enough = record {
@@ -122,7 +122,7 @@ module _ (kind : ℕ) (values : List ℤ) (proper : Proper kind values) where
       whole = file_length kind values ∙ ap (λ (n : ℕ). 8 + 8 * n) (sym count_comes_back);
       enough = rw count_comes_back enough;
     };
-    in_range_lem = rw (kind_comes_back, values_come_back) proper.in_range_lem;
+    in_range = rw (kind_comes_back, values_come_back) proper.in_range;
   }
 
   -- and it is not refused, where the buffer has room for the values
@@ -137,7 +137,7 @@ module _ (kind : ℕ) (values : List ℤ) (proper : Proper kind values) where
 pub unrefused_proper : (kind : ℕ) (values : List ℤ) (room : ℕ) → write_refusal kind values room ≡ none → Proper kind values
 unrefused_proper kind values room unrefused =
     let w = unrefused_writable kind values room (ap (λ (r : Refusal). r.number) unrefused) in
-    record { known = w.known; few = w.few; in_range_lem = w.in_range_lem }
+    record { known = w.known; few = w.few; in_range = w.in_range }
 
 -- and the front of the buffer that it leaves is the file
 pub buffer_has_file : (kind : ℕ) (values : List ℤ) (buffer : List ℕ) → write_refusal kind values (length buffer) ≡ none →
@@ -176,7 +176,7 @@ module _ (bytes : List ℕ) (all : AreBytes bytes) (room : ℕ) (accepted : read
   accepted_proper = record {
     known = kind_passed _ bytes readable.sound;
     few = rw (values_of_length bytes) readable.counted.few;
-    in_range_lem = readable.in_range_lem;
+    in_range = readable.in_range;
   }
 
 -- ---- version 1: so reading accepts files and nothing else

@@ -38,7 +38,7 @@ pub record Writable (head kind : ℕ) (values : List ℤ) (room : ℕ) : Type 0 
   pub known : kind ≤ 1
   pub few : length values ≤ most_values kind
   pub enough : head + 8 * length values ≤ room
-  pub in_range_lem : AllInRange kind values
+  pub in_range : AllInRange kind values
 
 -- ---- version 1
 
@@ -53,7 +53,7 @@ module _ (kind : ℕ) (values : List ℤ) (room : ℕ) where
 
   pub writable_none : Writable 8 kind values room → write_refusal kind values room ≡ none
   writable_none w =
-      kind_passes w.known ∙ rw (room_for_file 8 kind (length values) room w.few w.enough) (in_range_none kind values w.in_range_lem)
+      kind_passes w.known ∙ rw (room_for_file 8 kind (length values) room w.few w.enough) (in_range_none kind values w.in_range)
 
   pub unrefused_writable : (write_refusal kind values room).number ≡ 0 → Writable 8 kind values room
   unfolding write_refusal
@@ -66,7 +66,7 @@ module _ (kind : ℕ) (values : List ℤ) (room : ℕ) where
         known = leb-true kind 1 (not-false (leb kind 1) (test_fails _ 9 5 (omega arith) (first_refuses_nothing unknown (sized then unfit) e)));
         few = fits.0;
         enough = fits.1;
-        in_range_lem = unrefused_in_range kind values (rest_refuses_nothing sized unfit after_kind);
+        in_range = unrefused_in_range kind values (rest_refuses_nothing sized unfit after_kind);
       }
 
 -- ---- version 2
@@ -95,7 +95,7 @@ module _ (kind : ℕ) (start : ℤ) (values : List ℤ) (room : ℕ) where
   writable_from_none w =
       let held = w.writable in
       start_allowed held.known w.fits_start
-      ∙ rw (room_for_file 16 kind (length values) room held.few held.enough, w.start_in_range) (in_range_none kind values held.in_range_lem)
+      ∙ rw (room_for_file 16 kind (length values) room held.few held.enough, w.start_in_range) (in_range_none kind values held.in_range)
 
   pub unrefused_from : (write_record_refusal kind start values room).number ≡ 0 → WritableFrom kind start values room
   unfolding write_record_refusal
@@ -113,7 +113,7 @@ module _ (kind : ℕ) (start : ℤ) (values : List ℤ) (room : ℕ) where
           known = leb-true kind 1 (not-false (leb kind 1) (test_fails _ 9 5 (omega arith) (first_refuses_nothing unknown (bound then sized then far then unfit) e)));
           few = fits.0;
           enough = fits.1;
-          in_range_lem = unrefused_in_range kind values (rest_refuses_nothing far unfit after-size);
+          in_range = unrefused_in_range kind values (rest_refuses_nothing far unfit after-size);
         };
         fits_start = not-false (start_fits kind start) (test_fails _ 9 8 (omega arith) (first_refuses_nothing bound (sized then far then unfit) after_kind));
         start_in_range = not-false (in_range start) (test_fails _ 3 0 (omega arith) (first_refuses_nothing far unfit after-size));

@@ -47,7 +47,7 @@ values_refusal kind values = let first : ℕ = first_failing (value_in_range kin
 pub record Proper (kind : ℕ) (values : List ℤ) : Type 0 where
   pub known : kind ≤ 1
   pub few : length values ≤ most_values kind
-  pub in_range_lem : (i : ℕ) → i < length values → value_in_range kind (at values i) ≡ true
+  pub in_range : (i : ℕ) → i < length values → value_in_range kind (at values i) ≡ true
 
 -- the bytes are the file, version 1, of some kind and of values that a file may hold, with room for them
 pub record IsFile (bytes : List ℕ) (room : ℕ) : Type 0 where
@@ -59,7 +59,7 @@ pub record IsFile (bytes : List ℕ) (room : ℕ) : Type 0 where
 
 -- a start that a file of a kind may hold: a phase in the sample range, and 0 for phase samples
 pub record ProperStart (kind : ℕ) (start : ℤ) : Type 0 where
-  pub in_range_lem : unsigned_abs start ≤ 2 ^ 40
+  pub in_range : unsigned_abs start ≤ 2 ^ 40
   pub of_phase : kind ≡ 0 → start ≡ pos 0
 
 -- the bytes are the file, version 2, of some kind, and of a start and values that a file may hold, with room for the values

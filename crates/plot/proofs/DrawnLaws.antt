@@ -60,7 +60,7 @@ module _ {r : ℕ} (least : 1 ≤ r) (most : r ≤ 2 ^ 63) where
   pub drawn_is_greatest : GreatestDouble r (drawn_number r)
   drawn_is_greatest = record {
     double = drawn_double;
-    not_above_lem = value_not_above (drawn_number r) (kept r) r (kept_not_above r) drawn_value;
+    not_above = value_not_above (drawn_number r) (kept r) r (kept_not_above r) drawn_value;
     greatest = none_greater r (drawn_number r) least drawn_value;
   }
 
@@ -68,8 +68,8 @@ module _ {r : ℕ} (least : 1 ≤ r) (most : r ≤ 2 ^ 63) where
   pub greatest_is_drawn : {x : Float} → GreatestDouble r x → x ≡ drawn_number r
   greatest_is_drawn {x} greatest-x =
       let drawn = drawn_number r in
-      let not_less : T (le drawn x) = greatest-x.greatest drawn drawn_is_greatest.double drawn_is_greatest.not_above_lem in
-      let not_more : T (le x drawn) = drawn_is_greatest.greatest x greatest-x.double greatest-x.not_above_lem in
+      let not_less : T (le drawn x) = greatest-x.greatest drawn drawn_is_greatest.double drawn_is_greatest.not_above in
+      let not_more : T (le x drawn) = drawn_is_greatest.greatest x greatest-x.double greatest-x.not_above in
       let above : T (positive x) = between drawn x drawn drawn_above_nought drawn_above_nought not_less not_more in
       neither_less_same x drawn greatest-x.double drawn_double above drawn_above_nought not_more not_less
 

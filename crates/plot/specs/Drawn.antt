@@ -22,7 +22,7 @@ NotAbove (fin false m e) a c = m * up e * c ≤ a * down e
 -- x is a double, not above r / 2^20, and no double that is not above is greater
 pub record GreatestDouble (r : ℕ) (x : Float) : Type 0 where
   pub double : T (fits binary64 x)
-  pub not_above_lem : NotAbove x r (2 ^ 20)
+  pub not_above : NotAbove x r (2 ^ 20)
   pub greatest : (y : Float) → T (fits binary64 y) → NotAbove y r (2 ^ 20) → T (le y x)
 
 -- ---- how it is built
