@@ -261,7 +261,7 @@ def words_of_its_own(room):
         same(f"{part!r} in the help", part in text, True)
     source = open(os.path.join(CRATE, "src/words.rt")).read()
     for text in [WORDS[number] for number in range(1, 10)]:
-        same(f"{text!r} in src/words.rt", f'"{text}"' in source, True)
+        same(f"{text!r} in src/words.rt", f'b"{text}"' in source, True)
 
 
 def main():

@@ -1,5 +1,6 @@
 -- What a sequence of the meter's calls is: each call is given the meter as the call before gave it back, is lent its own ring, and ends as the
--- function's own contract allows. What a comparison of two records is. And what the calls of a sheet are: each is given the totals as the call before gave them back.
+-- function's own contract allows. What a comparison of two records is. And what the calls of a sheet are: each is given the totals as the call before gave
+-- them back.
 use Rattle.std.specs.Prelude.{◌≡◌, List, [], ◌∷◌, ◌++◌, ℕ, ◌<◌, ℤ, pos, ◌+ℤ◌, ◌*ℤ◌, length, take}
 use Rattle.std.specs.Borrow.{GName, Bor, MutBor}
 use contract.Lifetimes.{Lfts}

@@ -62,7 +62,7 @@ pub extern "C" fn plg_channel_sample(
             meter,
         };
     }
-    // Not by channel_sample: beside it the compiler has the answer of every plg_meter_sample copied once more.
+    // Not by channel_sample: beside it the older kit's compiler copied the answer of every plg_meter_sample once more.
     let share = ring.len() / channels::CHANNELS;
     let from = channel as usize * share;
     let to = from + share;

@@ -151,8 +151,8 @@ fn mend(rt: &HostRuntime, bytes: &[u8], past: u64) {
     report::kept(rt, answer, past);
 }
 
-// Writes the new file from the front of the buffer, or gives the error for which not all of it was taken. Its length is the damaged file's less the bytes left over,
-// never more than the buffer's; that is tested, not assumed.
+// Writes the new file from the front of the buffer, or gives the error for which not all of it was taken. Its length is the damaged file's less the
+// bytes left over, never more than the buffer's; that is tested, not assumed.
 fn written(
     rt: &HostRuntime,
     buffer: &[u8; LONGEST],
