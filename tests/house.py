@@ -26,6 +26,8 @@ C_FIELDS = {"hi": "high", "lo": "low"}
 C_TYPES = {"uint64_t": "u64", "int64_t": "i64", "uint8_t": "u8", "size_t": "usize", "double": "f64"}
 # The entry that an exported function is, where it has not its name: C cannot take the slice that `quieter` hands back.
 ENTRIES = {"plg_quieter": "which_quieter"}
+# The libraries that no entry is made of: they read, write and print for the programs. Their public functions promise something and have no theorem.
+FOR_PROGRAMS = {"files", "shown"}
 # The numbers of refusals, and with them those of two digits.
 DIGIT, DIGITS = "[1-9]", r"[1-9]\d?"
 
@@ -92,7 +94,7 @@ def clauses(text, start):
 
 def owner_at(text, place):
     """The type in whose `impl` a place lies."""
-    for block in re.finditer(r"\bimpl\b[^{]*?(\w+)\s*\{", text):
+    for block in re.finditer(r"\bimpl\b[^{]*?(\w+)(?:<[^{}]*?>)?\s*\{", text):
         if block.start() < place < closed(text, block.end() - 1):
             return block[1]
     return None
@@ -114,6 +116,9 @@ def functions_in(house, crate, path):
         if name not in read:
             house.lack(f"fn {name} of {path} has a head that this test does not read, or one of no_mangle and extern \"C\" without the other")
     for unread in re.findall(r"\bpub use [^;]*;|\bmod \w+\s*\{|\bpub trait \w+", text):
+        again = re.match(r"pub use (\w+)::", unread)
+        if again and re.search(rf"^pub mod {again[1]};", text, re.M):
+            continue  # what the module has is read with the module
         house.lack(f"`{unread}` of {path} hides public functions from this test")
     return found
 
@@ -127,9 +132,9 @@ def public_files(house, crate, path="lib.rt"):
 
 
 def public_functions(house):
-    """Of every library crate: what other crates can call, and what the static library exports to C."""
+    """Of every library crate of the entries: what other crates can call, and what the static library exports to C."""
     found, static = [], re.findall(r"^(\w+) staticlib\b", house.text("crates.txt"), re.M)
-    for crate in (path.split("/")[1] for path in house.files("crates/*/src/lib.rt")):
+    for crate in sorted({path.split("/")[1] for path in house.files("crates/*/src/lib.rt")} - FOR_PROGRAMS):
         paths = house.files(f"crates/{crate}/src/**/*.rt")
         public, text = set(public_files(house, crate)), "".join(source(house, path) for path in paths)
         for path in paths:
@@ -155,6 +160,14 @@ def check_crates(house):
     for path in house.files("crates/*"):
         if path.split("/")[1] not in listed:
             house.lack(f"{path} is not in crates.txt")
+
+
+def check_uses(house):
+    """What is made for programs is used by programs alone."""
+    for crate, used in re.findall(r"^(\w+)(?: [\w=]+)*:(.*)", house.text("crates.txt"), re.M):
+        if not house.has(f"crates/{crate}/src/main.rt"):
+            for name in sorted(FOR_PROGRAMS & set(used.split())):
+                house.lack(f"crates/{crate} uses {name}, which is for programs alone")
 
 
 def check_contract(house, f):
@@ -670,6 +683,7 @@ def looked_over(root, symbols):
     """The house after every check."""
     house = House(root, symbols)
     check_crates(house)
+    check_uses(house)
     check_promises(house)
     functions = public_functions(house)
     entries = [check_exported(house, f, functions) for f in functions if f.exported]

@@ -259,9 +259,9 @@ def words_of_its_own(room):
     text = "".join(helps[0][0])
     for part in "usage: inspect FILE..\n", "2^-20 ps", "exit status", line("cut.phr")[9:], line("beyond.phr")[12:]:
         same(f"{part!r} in the help", part in text, True)
-    source = open(os.path.join(CRATE, "src/words.rt")).read()
+    source = open(os.path.join(ROOT, "crates/record/src/grounds.rt")).read()
     for text in [WORDS[number] for number in range(1, 10)]:
-        same(f"{text!r} in src/words.rt", f'b"{text}"' in source, True)
+        same(f"{text!r} in crates/record/src/grounds.rt", f'=> "{text}",' in source, True)
 
 
 def main():

@@ -18,18 +18,21 @@ REFUSED = re.compile(r"refused, as it must be(?: \(only by a limit [^)]*\))?: (.
 OF_A_FUNCTION = {"Proof.antt", "Invariants.antt", "Answers.antt"}
 
 
-def source_of(root, crate, function):
-    """The file that declares a function of a crate."""
-    for path in sorted((root / "crates" / crate / "src").glob("**/*.rt")):
-        if re.search(rf"\bfn {function}\b", path.read_text(encoding="utf-8")):
+def source_of(root, crate, modules, function):
+    """The file of the modules, where it declares the function, else the first of the crate that does."""
+    src = root / "crates" / crate / "src"
+    for path in [src / ("/".join(modules or ["lib"]) + ".rt"), *sorted(src.glob("**/*.rt"))]:
+        if path.is_file() and re.search(rf"\bfn {function}\b", path.read_text(encoding="utf-8")):
             return path.relative_to(root).as_posix()
     return f"crates/{crate}/src"
 
 
 def function(root, crate, modules):
-    """How the table names a function, of which the last of its modules may be the type that owns it."""
-    owner = modules[-2] + "::" if len(modules) > 1 and modules[-2][0].isupper() else ""
-    return f"`{owner}{modules[-1]}` (`{source_of(root, crate, modules[-1])}`)"
+    """How the table names a function, of which the last of its modules may be the type that owns it, as XFromY owns a conversion to X."""
+    *modules, name = modules
+    owner = modules.pop() if modules and modules[-1][0].isupper() else ""
+    kind = re.match(r"(\w+?)From[A-Z]", owner)
+    return f"`{(kind[1] if kind else owner) + '::' if owner else ''}{name}` (`{source_of(root, crate, modules, name)}`)"
 
 
 def at_line(root, crate, file, number):
@@ -40,7 +43,7 @@ def at_line(root, crate, file, number):
         number += 1
     names, owner = [], ""
     for line in lines[:number]:
-        block = re.match(r"impl\b[^{]*?(\w+)\s*\{", line)
+        block = re.match(r"impl\b[^{]*?(\w+)(?:<[^{}]*?>)?\s*\{", line)
         owner = block[1] + "::" if block else "" if line.startswith("}") else owner
         names += [owner + name for name in re.findall(r"^\s*(?:pub(?:\(\w+\))?\s+)?(?:extern \"C\" )?(?:const )?fn (\w+)", line)]
     return f"`{names[-1]}` (`crates/{crate}/{file}`)" if names else None

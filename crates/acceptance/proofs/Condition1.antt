@@ -204,6 +204,110 @@ use Rattle.ploegelster.proofs.drawing.plg_bars.Kinds as plg-bars-kinds
 use Rattle.acceptance.specs.Noughts.{Refused, SumNought, PartsNought, PartsApart, DotNought, BarsNought, OneOf}
 use Rattle.acceptance.proofs.NoughtLaws.{count_noughts, past_the_count, read_noughts, past_the_values, record_noughts, past_the_record, sum_noughts, float_noughts, float_part_noughts, past_the_samples, report_noughts, report_part_noughts, drift_noughts, meter_as_it_came, ring_as_it_came, other_slots_unchanged, own_slot_written, drawn_noughts, dot_noughts, told_dot_noughts, fraction_noughts, deviation_noughts, alpha_nought, bars_noughts, alpha_bars_noughts, header_noughts, salvage_noughts, past_the_salvaged, text_noughts, past_the_text, which_nought, one_is_handed}
 use Rattle.acceptance.proofs.ChannelCalls.{refused_start_on, refused_sample_on, refused_gap_on, refused_report_on, other_entries_unchanged, own_entry_written, bank_number, refused_bank}
+use Rattle.record.proofs.grounds.Ground.at.Reads as result-record-at
+use Rattle.record.proofs.grounds.Ground.at.Kinds as result-record-at-kinds
+use Rattle.record.proofs.check_range.Reads as result-record-check-range
+use Rattle.record.proofs.check_range.Kinds as result-record-check-range-kinds
+use Rattle.record.proofs.check_record.Reads as result-record-check-record
+use Rattle.record.proofs.check_record.Kinds as result-record-check-record-kinds
+use Rattle.record.proofs.check_size.Reads as result-record-check-size
+use Rattle.record.proofs.check_size.Kinds as result-record-check-size-kinds
+use Rattle.compare.proofs.compared.Reads as result-compare-compared
+use Rattle.compare.proofs.compared.Kinds as result-compare-compared-kinds
+use Rattle.frequency.proofs.differences.Reads as result-frequency-differences
+use Rattle.frequency.proofs.differences.Kinds as result-frequency-differences-kinds
+use Rattle.frequency.proofs.phases.Reads as result-frequency-phases
+use Rattle.frequency.proofs.phases.Kinds as result-frequency-phases-kinds
+use Rattle.drift.proofs.figure.Reads as result-drift-figure
+use Rattle.drift.proofs.figure.Kinds as result-drift-figure-kinds
+use Rattle.drift.proofs.removed.Reads as result-drift-removed
+use Rattle.drift.proofs.removed.Kinds as result-drift-removed-kinds
+use Rattle.sums.proofs.allan.Reads as result-sums-allan
+use Rattle.sums.proofs.allan.Kinds as result-sums-allan-kinds
+use Rattle.sums.proofs.modified.Reads as result-sums-modified
+use Rattle.sums.proofs.modified.Kinds as result-sums-modified-kinds
+use Rattle.variances.proofs.deviations.allan_root.Reads as result-variances-allan-root
+use Rattle.variances.proofs.deviations.allan_root.Kinds as result-variances-allan-root-kinds
+use Rattle.variances.proofs.deviations.time_root.Reads as result-variances-time-root
+use Rattle.variances.proofs.deviations.time_root.Kinds as result-variances-time-root-kinds
+use Rattle.variances.proofs.fractions.allan_variance.Reads as result-variances-allan-variance
+use Rattle.variances.proofs.fractions.allan_variance.Kinds as result-variances-allan-variance-kinds
+use Rattle.variances.proofs.fractions.time_variance.Reads as result-variances-time-variance
+use Rattle.variances.proofs.fractions.time_variance.Kinds as result-variances-time-variance-kinds
+use Rattle.readings.proofs.sums_of.Reads as result-readings-sums-of
+use Rattle.readings.proofs.sums_of.Kinds as result-readings-sums-of-kinds
+use Rattle.plot.proofs.dots.dot_of_allan.Reads as result-plot-dot-of-allan
+use Rattle.plot.proofs.dots.dot_of_allan.Kinds as result-plot-dot-of-allan-kinds
+use Rattle.plot.proofs.dots.dot_of_time.Reads as result-plot-dot-of-time
+use Rattle.plot.proofs.dots.dot_of_time.Kinds as result-plot-dot-of-time-kinds
+use Rattle.plot.proofs.drawn.number.Reads as result-plot-number
+use Rattle.plot.proofs.drawn.number.Kinds as result-plot-number-kinds
+use Rattle.noise.proofs.bars.row.Reads as result-noise-row
+use Rattle.noise.proofs.bars.row.Kinds as result-noise-row-kinds
+use Rattle.noise.proofs.by_deviations.Reads as result-noise-by-deviations
+use Rattle.noise.proofs.by_deviations.Kinds as result-noise-by-deviations-kinds
+use Rattle.noise.proofs.of_record.Reads as result-noise-of-record
+use Rattle.noise.proofs.of_record.Kinds as result-noise-of-record-kinds
+use Rattle.meter.proofs.Meter.after_gap.Reads as result-meter-after-gap
+use Rattle.meter.proofs.Meter.after_gap.Kinds as result-meter-after-gap-kinds
+use Rattle.meter.proofs.Meter.new.Reads as result-meter-new
+use Rattle.meter.proofs.Meter.new.Kinds as result-meter-new-kinds
+use Rattle.meter.proofs.Meter.sums.Reads as result-meter-sums
+use Rattle.meter.proofs.Meter.sums.Kinds as result-meter-sums-kinds
+use Rattle.meter.proofs.Meter.with_sample.Reads as result-meter-with-sample
+use Rattle.meter.proofs.Meter.with_sample.Kinds as result-meter-with-sample-kinds
+use Rattle.channels.proofs.Bank.after_gap.Reads as result-channels-bank-after-gap
+use Rattle.channels.proofs.Bank.after_gap.Kinds as result-channels-bank-after-gap-kinds
+use Rattle.channels.proofs.Bank.sums.Reads as result-channels-bank-sums
+use Rattle.channels.proofs.Bank.sums.Kinds as result-channels-bank-sums-kinds
+use Rattle.channels.proofs.Bank.with_fresh.Reads as result-channels-bank-with-fresh
+use Rattle.channels.proofs.Bank.with_fresh.Kinds as result-channels-bank-with-fresh-kinds
+use Rattle.channels.proofs.Bank.with_sample.Reads as result-channels-bank-with-sample
+use Rattle.channels.proofs.Bank.with_sample.Kinds as result-channels-bank-with-sample-kinds
+use Rattle.channels.proofs.after_gap_on.Reads as result-channels-after-gap-on
+use Rattle.channels.proofs.after_gap_on.Kinds as result-channels-after-gap-on-kinds
+use Rattle.channels.proofs.fresh_on.Reads as result-channels-fresh-on
+use Rattle.channels.proofs.fresh_on.Kinds as result-channels-fresh-on-kinds
+use Rattle.channels.proofs.sums_on.Reads as result-channels-sums-on
+use Rattle.channels.proofs.sums_on.Kinds as result-channels-sums-on-kinds
+use Rattle.channels.proofs.with_sample_on.Reads as result-channels-with-sample-on
+use Rattle.channels.proofs.with_sample_on.Kinds as result-channels-with-sample-on-kinds
+use Rattle.phr.proofs.good.Reads as result-phr-good
+use Rattle.phr.proofs.good.Kinds as result-phr-good-kinds
+use Rattle.phr.proofs.read.Reads as result-phr-read
+use Rattle.phr.proofs.read.Kinds as result-phr-read-kinds
+use Rattle.phr.proofs.read_contents.Reads as result-phr-read-contents
+use Rattle.phr.proofs.read_contents.Kinds as result-phr-read-contents-kinds
+use Rattle.phr.proofs.read_either.Reads as result-phr-read-either
+use Rattle.phr.proofs.read_either.Kinds as result-phr-read-either-kinds
+use Rattle.phr.proofs.write.Reads as result-phr-write
+use Rattle.phr.proofs.write.Kinds as result-phr-write-kinds
+use Rattle.phr.proofs.write_from.Reads as result-phr-write-from
+use Rattle.phr.proofs.write_from.Kinds as result-phr-write-from-kinds
+use Rattle.mending.proofs.mended.Reads as result-mending-mended
+use Rattle.mending.proofs.mended.Kinds as result-mending-mended-kinds
+use Rattle.listing.proofs.record.Reads as result-listing-record
+use Rattle.listing.proofs.record.Kinds as result-listing-record-kinds
+use Rattle.listing.proofs.total.Reads as result-listing-total
+use Rattle.listing.proofs.total.Kinds as result-listing-total-kinds
+use Rattle.record.proofs.Unique.{at_single as result_record_at_single, check_range_single as result_record_check_range_single, check_record_single as result_record_check_record_single, check_size_single as result_record_check_size_single}
+use Rattle.compare.proofs.Unique.{compared_single as result_compare_compared_single}
+use Rattle.frequency.proofs.Unique.{differences_single as result_frequency_differences_single, phases_single as result_frequency_phases_single}
+use Rattle.drift.proofs.Unique.{figure_single as result_drift_figure_single, removed_single as result_drift_removed_single}
+use Rattle.sums.proofs.Unique.{allan_single as result_sums_allan_single, modified_single as result_sums_modified_single}
+use Rattle.variances.proofs.Unique.{allan_root_single as result_variances_allan_root_single, time_root_single as result_variances_time_root_single, allan_variance_single as result_variances_allan_variance_single, time_variance_single as result_variances_time_variance_single}
+use Rattle.readings.proofs.Unique.{sums_of_single as result_readings_sums_of_single}
+use Rattle.plot.proofs.Unique.{dot_of_allan_single as result_plot_dot_of_allan_single, dot_of_time_single as result_plot_dot_of_time_single, number_single as result_plot_number_single}
+use Rattle.noise.proofs.Unique.{row_single as result_noise_row_single, by_deviations_single as result_noise_by_deviations_single, of_record_single as result_noise_of_record_single}
+use Rattle.meter.proofs.Unique.{after_gap_single as result_meter_after_gap_single, new_single as result_meter_new_single, sums_single as result_meter_sums_single, with_sample_single as result_meter_with_sample_single}
+use Rattle.channels.proofs.Unique.{after_gap_single as result_channels_after_gap_single, sums_single as result_channels_sums_single, with_fresh_single as result_channels_with_fresh_single, with_sample_single as result_channels_with_sample_single, after_gap_on_single as result_channels_after_gap_on_single, fresh_on_single as result_channels_fresh_on_single, sums_on_single as result_channels_sums_on_single, with_sample_on_single as result_channels_with_sample_on_single}
+use Rattle.phr.proofs.Unique.{good_single as result_phr_good_single, read_single as result_phr_read_single, read_contents_single as result_phr_read_contents_single, read_either_single as result_phr_read_either_single, write_single as result_phr_write_single, write_from_single as result_phr_write_from_single}
+use Rattle.mending.proofs.Unique.{mended_single as result_mending_mended_single}
+use Rattle.listing.proofs.Unique.{record_single as result_listing_record_single, total_single as result_listing_total_single}
+use Rattle.record.specs.Told.{count_told}
+use Rattle.phr.specs.Told.{read_told, record_told}
+use Rattle.mending.specs.Told.{salvage_told}
+use Rattle.listing.specs.Told.{text_told}
 
 -- ---- wide: whole numbers of 128 bits; nothing is refused
 
@@ -707,3 +811,197 @@ plg_sheet_record_is = refl
 
 pub plg_sheet_total_is : plg-sheet-total.Post ≡ sheet-total.Post
 plg_sheet_total_is = refl
+
+-- ---- as a Result, for callers in Rattle: one answer, and what stands past the output is unchanged; what an entry tells C is said of the entry above
+
+pub result_record_at_one_answer : Single 0 result-record-at-kinds.ps result-record-at-kinds.r result-record-at.Post
+result_record_at_one_answer = result_record_at_single
+
+pub result_record_check_range_one_answer : Single 1 result-record-check-range-kinds.ps result-record-check-range-kinds.r result-record-check-range.Post
+result_record_check_range_one_answer = result_record_check_range_single
+
+pub result_record_check_record_one_answer : Single 1 result-record-check-record-kinds.ps result-record-check-record-kinds.r result-record-check-record.Post
+result_record_check_record_one_answer = result_record_check_record_single
+
+pub result_record_check_size_one_answer : Single 0 result-record-check-size-kinds.ps result-record-check-size-kinds.r result-record-check-size.Post
+result_record_check_size_one_answer = result_record_check_size_single
+
+pub result_compare_compared_one_answer : Single 2 result-compare-compared-kinds.ps result-compare-compared-kinds.r result-compare-compared.Post
+result_compare_compared_one_answer = result_compare_compared_single
+
+pub result_frequency_differences_one_answer : Single 2 result-frequency-differences-kinds.ps result-frequency-differences-kinds.r result-frequency-differences.Post
+result_frequency_differences_one_answer = result_frequency_differences_single
+
+pub result_frequency_differences_past : Always 2 result-frequency-differences-kinds.ps result-frequency-differences-kinds.r result-frequency-differences.Post
+    (λ κs args z w. let buffer = args.1.0.now in let left = w.1.0 in (i : ℕ) (e : ℤ) → (count_told z).count ≤ i → get_or left i e ≡ get_or buffer i e)
+result_frequency_differences_past κs args z w is = rw (is.0, is.1) (past_the_count _ _ _ _ (differences_length _))
+
+pub result_frequency_phases_one_answer : Single 2 result-frequency-phases-kinds.ps result-frequency-phases-kinds.r result-frequency-phases.Post
+result_frequency_phases_one_answer = result_frequency_phases_single
+
+pub result_frequency_phases_past : Always 2 result-frequency-phases-kinds.ps result-frequency-phases-kinds.r result-frequency-phases.Post
+    (λ κs args z w. let buffer = args.1.1.0.now in let left = w.1.1.0 in (i : ℕ) (e : ℤ) → (count_told z).count ≤ i → get_or left i e ≡ get_or buffer i e)
+result_frequency_phases_past κs args z w is = rw (is.0, is.1) (past_the_count _ _ _ _ (phases_from_length _ _))
+
+pub result_drift_figure_one_answer : Single 1 result-drift-figure-kinds.ps result-drift-figure-kinds.r result-drift-figure.Post
+result_drift_figure_one_answer = result_drift_figure_single
+
+pub result_drift_removed_one_answer : Single 2 result-drift-removed-kinds.ps result-drift-removed-kinds.r result-drift-removed.Post
+result_drift_removed_one_answer = result_drift_removed_single
+
+pub result_drift_removed_past : Always 2 result-drift-removed-kinds.ps result-drift-removed-kinds.r result-drift-removed.Post
+    (λ κs args z w. let buffer = args.1.0.now in let left = w.1.0 in (i : ℕ) (e : ℤ) → (count_told z).count ≤ i → get_or left i e ≡ get_or buffer i e)
+result_drift_removed_past κs args z w is = rw (is.0, is.1) (past_the_count _ _ _ _ (without_drift_length _))
+
+pub result_sums_allan_one_answer : Single 1 result-sums-allan-kinds.ps result-sums-allan-kinds.r result-sums-allan.Post
+result_sums_allan_one_answer = result_sums_allan_single
+
+pub result_sums_modified_one_answer : Single 1 result-sums-modified-kinds.ps result-sums-modified-kinds.r result-sums-modified.Post
+result_sums_modified_one_answer = result_sums_modified_single
+
+pub result_variances_allan_root_one_answer : Single 0 result-variances-allan-root-kinds.ps result-variances-allan-root-kinds.r result-variances-allan-root.Post
+result_variances_allan_root_one_answer = result_variances_allan_root_single
+
+pub result_variances_time_root_one_answer : Single 0 result-variances-time-root-kinds.ps result-variances-time-root-kinds.r result-variances-time-root.Post
+result_variances_time_root_one_answer = result_variances_time_root_single
+
+pub result_variances_allan_variance_one_answer : Single 0 result-variances-allan-variance-kinds.ps result-variances-allan-variance-kinds.r result-variances-allan-variance.Post
+result_variances_allan_variance_one_answer = result_variances_allan_variance_single
+
+pub result_variances_time_variance_one_answer : Single 0 result-variances-time-variance-kinds.ps result-variances-time-variance-kinds.r result-variances-time-variance.Post
+result_variances_time_variance_one_answer = result_variances_time_variance_single
+
+pub result_readings_sums_of_one_answer : Single 2 result-readings-sums-of-kinds.ps result-readings-sums-of-kinds.r result-readings-sums-of.Post
+result_readings_sums_of_one_answer = result_readings_sums_of_single
+
+pub result_readings_sums_of_past : Always 2 result-readings-sums-of-kinds.ps result-readings-sums-of-kinds.r result-readings-sums-of.Post
+    (λ κs args z w. let xs = args.0.now in let buffer = args.1.1.0.now in let left = w.1.1.0 in
+    (i : ℕ) (e : ℤ) → length xs ≤ i → get_or left i e ≡ get_or buffer i e)
+result_readings_sums_of_past κs args z w is = rw is.1 (past_the_samples args.1.0 args.0.now args.1.1.0.now)
+
+pub result_plot_dot_of_allan_one_answer : Single 0 result-plot-dot-of-allan-kinds.ps result-plot-dot-of-allan-kinds.r result-plot-dot-of-allan.Post
+result_plot_dot_of_allan_one_answer = result_plot_dot_of_allan_single
+
+pub result_plot_dot_of_time_one_answer : Single 0 result-plot-dot-of-time-kinds.ps result-plot-dot-of-time-kinds.r result-plot-dot-of-time.Post
+result_plot_dot_of_time_one_answer = result_plot_dot_of_time_single
+
+pub result_plot_number_one_answer : Single 0 result-plot-number-kinds.ps result-plot-number-kinds.r result-plot-number.Post
+result_plot_number_one_answer = result_plot_number_single
+
+pub result_noise_row_one_answer : Single 0 result-noise-row-kinds.ps result-noise-row-kinds.r result-noise-row.Post
+result_noise_row_one_answer = result_noise_row_single
+
+pub result_noise_by_deviations_one_answer : Single 0 result-noise-by-deviations-kinds.ps result-noise-by-deviations-kinds.r result-noise-by-deviations.Post
+result_noise_by_deviations_one_answer = result_noise_by_deviations_single
+
+pub result_noise_of_record_one_answer : Single 1 result-noise-of-record-kinds.ps result-noise-of-record-kinds.r result-noise-of-record.Post
+result_noise_of_record_one_answer = result_noise_of_record_single
+
+pub result_meter_after_gap_one_answer : Single 0 result-meter-after-gap-kinds.ps result-meter-after-gap-kinds.r result-meter-after-gap.Post
+result_meter_after_gap_one_answer = result_meter_after_gap_single
+
+pub result_meter_new_one_answer : Single 1 result-meter-new-kinds.ps result-meter-new-kinds.r result-meter-new.Post
+result_meter_new_one_answer = result_meter_new_single
+
+pub result_meter_sums_one_answer : Single 0 result-meter-sums-kinds.ps result-meter-sums-kinds.r result-meter-sums.Post
+result_meter_sums_one_answer = result_meter_sums_single
+
+pub result_meter_with_sample_one_answer : Single 1 result-meter-with-sample-kinds.ps result-meter-with-sample-kinds.r result-meter-with-sample.Post
+result_meter_with_sample_one_answer = result_meter_with_sample_single
+
+pub result_meter_with_sample_past : Always 1 result-meter-with-sample-kinds.ps result-meter-with-sample-kinds.r result-meter-with-sample.Post
+    (λ κs args z w. let x = args.0 in let ring = args.1.0.now in let left = w.1.0 in
+    (i : ℕ) (e : ℤ) → (i ≡ x.stretch % (3 * x.m) → ⊥) → get_or left i e ≡ get_or ring i e)
+result_meter_with_sample_past κs args z w is = rw is.1 (other_slots_unchanged _ _ _)
+
+pub result_channels_bank_after_gap_one_answer : Single 0 result-channels-bank-after-gap-kinds.ps result-channels-bank-after-gap-kinds.r result-channels-bank-after-gap.Post
+result_channels_bank_after_gap_one_answer = result_channels_after_gap_single
+
+pub result_channels_bank_sums_one_answer : Single 0 result-channels-bank-sums-kinds.ps result-channels-bank-sums-kinds.r result-channels-bank-sums.Post
+result_channels_bank_sums_one_answer = result_channels_sums_single
+
+pub result_channels_bank_with_fresh_one_answer : Single 1 result-channels-bank-with-fresh-kinds.ps result-channels-bank-with-fresh-kinds.r result-channels-bank-with-fresh.Post
+result_channels_bank_with_fresh_one_answer = result_channels_with_fresh_single
+
+pub result_channels_bank_with_sample_one_answer : Single 1 result-channels-bank-with-sample-kinds.ps result-channels-bank-with-sample-kinds.r result-channels-bank-with-sample.Post
+result_channels_bank_with_sample_one_answer = result_channels_with_sample_single
+
+pub result_channels_bank_with_sample_past : Always 1 result-channels-bank-with-sample-kinds.ps result-channels-bank-with-sample-kinds.r result-channels-bank-with-sample.Post
+    (λ κs args z w. let x = meter_of args.0 args.1.0 in let c = args.1.0 in let ring = args.1.1.0.now in let left = w.1.1.0 in
+    (i : ℕ) (e : ℤ) → (i ≡ c * (length ring / 16) + x.stretch % (3 * x.m) → ⊥) → get_or left i e ≡ get_or ring i e)
+unfolding bank_ring_left
+result_channels_bank_with_sample_past κs args z w is = rw is.1 (other_entries_unchanged _ _ _ _)
+
+pub result_channels_after_gap_on_one_answer : Single 0 result-channels-after-gap-on-kinds.ps result-channels-after-gap-on-kinds.r result-channels-after-gap-on.Post
+result_channels_after_gap_on_one_answer = result_channels_after_gap_on_single
+
+pub result_channels_fresh_on_one_answer : Single 1 result-channels-fresh-on-kinds.ps result-channels-fresh-on-kinds.r result-channels-fresh-on.Post
+result_channels_fresh_on_one_answer = result_channels_fresh_on_single
+
+pub result_channels_sums_on_one_answer : Single 0 result-channels-sums-on-kinds.ps result-channels-sums-on-kinds.r result-channels-sums-on.Post
+result_channels_sums_on_one_answer = result_channels_sums_on_single
+
+pub result_channels_with_sample_on_one_answer : Single 1 result-channels-with-sample-on-kinds.ps result-channels-with-sample-on-kinds.r result-channels-with-sample-on.Post
+result_channels_with_sample_on_one_answer = result_channels_with_sample_on_single
+
+pub result_channels_with_sample_on_past : Always 1 result-channels-with-sample-on-kinds.ps result-channels-with-sample-on-kinds.r result-channels-with-sample-on.Post
+    (λ κs args z w. let x = args.0 in let c = args.1.0 in let ring = args.1.1.0.now in let left = w.1.1.0 in
+    (i : ℕ) (e : ℤ) → (i ≡ c * (length ring / 16) + x.stretch % (3 * x.m) → ⊥) → get_or left i e ≡ get_or ring i e)
+result_channels_with_sample_on_past κs args z w is = rw is.1 (other_entries_unchanged _ _ _ _)
+
+pub result_phr_good_one_answer : Single 1 result-phr-good-kinds.ps result-phr-good-kinds.r result-phr-good.Post
+result_phr_good_one_answer = result_phr_good_single
+
+pub result_phr_read_one_answer : Single 2 result-phr-read-kinds.ps result-phr-read-kinds.r result-phr-read.Post
+result_phr_read_one_answer = result_phr_read_single
+
+pub result_phr_read_past : Always 2 result-phr-read-kinds.ps result-phr-read-kinds.r result-phr-read.Post
+    (λ κs args z w. let buffer = args.1.0.now in let left = w.1.0 in (i : ℕ) (e : ℤ) → (read_told z).count ≤ i → get_or left i e ≡ get_or buffer i e)
+result_phr_read_past κs args z w is = rw (is.0, is.1) (past_the_values args.0.now args.1.0.now)
+
+pub result_phr_read_contents_one_answer : Single 1 result-phr-read-contents-kinds.ps result-phr-read-contents-kinds.r result-phr-read-contents.Post
+result_phr_read_contents_one_answer = result_phr_read_contents_single
+
+pub result_phr_read_either_one_answer : Single 2 result-phr-read-either-kinds.ps result-phr-read-either-kinds.r result-phr-read-either.Post
+result_phr_read_either_one_answer = result_phr_read_either_single
+
+pub result_phr_read_either_past : Always 2 result-phr-read-either-kinds.ps result-phr-read-either-kinds.r result-phr-read-either.Post
+    (λ κs args z w. let buffer = args.1.0.now in let left = w.1.0 in (i : ℕ) (e : ℤ) → (record_told z).count ≤ i → get_or left i e ≡ get_or buffer i e)
+result_phr_read_either_past κs args z w is = rw (is.0, is.1) (past_the_record args.0.now args.1.0.now)
+
+pub result_phr_write_one_answer : Single 2 result-phr-write-kinds.ps result-phr-write-kinds.r result-phr-write.Post
+result_phr_write_one_answer = result_phr_write_single
+
+pub result_phr_write_past : Always 2 result-phr-write-kinds.ps result-phr-write-kinds.r result-phr-write.Post
+    (λ κs args z w. let buffer = args.1.1.0.now in let left = w.1.1.0 in (i e : ℕ) → (count_told z).count ≤ i → get_or left i e ≡ get_or buffer i e)
+result_phr_write_past κs args z w is = rw (is.0, is.1) (past_the_count _ _ _ _ (file_length _ _))
+
+pub result_phr_write_from_one_answer : Single 2 result-phr-write-from-kinds.ps result-phr-write-from-kinds.r result-phr-write-from.Post
+result_phr_write_from_one_answer = result_phr_write_from_single
+
+pub result_phr_write_from_past : Always 2 result-phr-write-from-kinds.ps result-phr-write-from-kinds.r result-phr-write-from.Post
+    (λ κs args z w. let buffer = args.1.1.1.0.now in let left = w.1.1.1.0 in (i e : ℕ) → (count_told z).count ≤ i → get_or left i e ≡ get_or buffer i e)
+result_phr_write_from_past κs args z w is = rw (is.0, is.1) (past_the_count _ _ _ _ (file_from_length _ _ _))
+
+pub result_mending_mended_one_answer : Single 2 result-mending-mended-kinds.ps result-mending-mended-kinds.r result-mending-mended.Post
+result_mending_mended_one_answer = result_mending_mended_single
+
+pub result_mending_mended_past : Always 2 result-mending-mended-kinds.ps result-mending-mended-kinds.r result-mending-mended.Post
+    (λ κs args z w. let bytes = args.0.now in let buffer = args.1.0.now in let left = w.1.0 in
+    (i e : ℕ) → length bytes - (salvage_told z).left_over ≤ i → get_or left i e ≡ get_or buffer i e)
+result_mending_mended_past κs args z w is = rw (is.0, is.1) (past_the_salvaged args.0.now args.1.0.now)
+
+pub result_listing_record_one_answer : Single 2 result-listing-record-kinds.ps result-listing-record-kinds.r result-listing-record.Post
+result_listing_record_one_answer = result_listing_record_single
+
+pub result_listing_record_past : Always 2 result-listing-record-kinds.ps result-listing-record-kinds.r result-listing-record.Post
+    (λ κs args z w. let buffer = args.1.1.0.now in let left = w.1.1.0 in
+    (i e : ℕ) → (text_told args.1.0 z).length ≤ i → get_or left i e ≡ get_or buffer i e)
+result_listing_record_past κs args z w is = rw (is.0, is.1) (past_the_text args.0.now args.1.0 args.1.1.0.now)
+
+pub result_listing_total_one_answer : Single 1 result-listing-total-kinds.ps result-listing-total-kinds.r result-listing-total.Post
+result_listing_total_one_answer = result_listing_total_single
+
+pub result_listing_total_past : Always 1 result-listing-total-kinds.ps result-listing-total-kinds.r result-listing-total.Post
+    (λ κs args z w. let buffer = args.1.0.now in let left = w.1.0 in (i e : ℕ) → (count_told z).count ≤ i → get_or left i e ≡ get_or buffer i e)
+result_listing_total_past κs args z w is = rw (is.0, is.1) (past_the_count _ _ _ _ refl)

@@ -1,4 +1,4 @@
--- A call on a channel, above 15 and not; where a channel's part of the ring lies; and what the bank answers of the meter that it holds.
+-- A call on a channel, above 15 and not; where a channel's part of the ring lies; and what the bank is told.
 use mathlib.Core.Path.{◌≡◌, refl, sym, ap, ◌∙◌}
 use mathlib.Core.Bool.{true, false, cond}
 use mathlib.Core.List.{List, ◌++◌}
@@ -11,12 +11,20 @@ use lib.ListN.{length, take, drop}
 use lib.Seq.{drop-drop}
 use Rattle.laws.proofs.Tests.{choice_true, choice_false}
 use Rattle.laws.proofs.SliceLaws.{part_within}
-use Rattle.meter.specs.Answers.{start_answer, sample_answer, ring_left, gap_answer}
+use Rattle.meter.specs.Answers.{sample_answer, ring_left}
+use Rattle.std.proofs.Common.{Ok, Err, ne_eqb}
+use Rattle.record.specs.Told.{number_of}
+use Rattle.record.specs.declared.grounds.Refused.{Refused}
+use Rattle.record.specs.declared.grounds.Ground.TheVariants.{BadChannel}
+use Rattle.record.proofs.ToldLaws.{answered_not}
+use Rattle.sums.specs.Answers.{no_part}
+use Rattle.meter.specs.Told.{meter_told, report_told}
+use Rattle.meter.specs.declared.Report.{Report}
 use Rattle.meter.specs.declared.Meter.{Meter}
 use Rattle.meter.specs.declared.MeterAnswer.{MeterAnswer}
-use Rattle.channels.specs.Shares.{is_channel, share, channel_part, with_part, meter_of}
-use Rattle.channels.specs.Answers.{no_channel, channel_start_answer, channel_sample_answer, channel_ring_left, channel_gap_answer, channel_report_answer}
-use Rattle.channels.specs.Answers.{bank_answer, bank_start_answer, bank_sample_answer, bank_ring_left, bank_gap_answer, bank_report_answer}
+use Rattle.channels.specs.Shares.{is_channel, share, channel_part, with_part, with_meter}
+use Rattle.channels.specs.Answers.{no_channel, channel_sample_answer, channel_ring_left, bank_answer}
+use Rattle.channels.specs.Told.{bank_told}
 use Rattle.channels.specs.declared.Bank.{Bank}
 
 -- ---- a channel, or none
@@ -65,45 +73,35 @@ pub sample_off_channel : (x : Meter) (c : ℕ) (ring : List ℤ) (v : ℤ) → 1
 unfolding channel_sample_answer channel_ring_left
 sample_off_channel x c ring v above = (sym (choice_false _ _ (is_no_channel above)), sym (choice_false _ _ (is_no_channel above)))
 
+-- ---- what a call that gives a result is told
+
+-- above 15 it is refused 11
+pub told_off_channel : (x : Meter) (c : ℕ) (answered : MeterAnswer) (e : Refused) → (15 < c) × (e ≡ record { why = BadChannel; place = 0 }) →
+    meter_told x (Err e) ≡ cond (is_channel c) answered (no_channel x)
+unfolding no_channel
+told_off_channel x c answered e off = rw (off.1) (sym (choice_false _ _ (is_no_channel off.0)))
+
+pub report_off_channel : (c : ℕ) (answered : Report) (e : Refused) → (15 < c) × (e ≡ record { why = BadChannel; place = 0 }) →
+    report_told (Err e) ≡ cond (is_channel c) answered (record { number = 11; place = 0; allan = no_part; modified = no_part })
+report_off_channel c answered e off = rw (off.1) (sym (choice_false _ _ (is_no_channel off.0)))
+
+-- on a channel it is what the meter answers
+pub on_channel : {A : Type 0} {c : ℕ} {answer answered : A} (other : A) → c ≤ 15 → answer ≡ answered → answer ≡ cond (is_channel c) answered other
+on_channel other inside is = is ∙ sym (choice_true _ _ (is_channel_lem inside))
+
 -- ---- the bank
 
--- what a call answers of the meter that the bank holds for the channel; above 15 it is the same of any meter
-pub held_alike : {A : Type 0} (bank : Bank) (c : ℕ) (answer : Meter → A) (x : Meter) →
-    (15 < c → (y z : Meter) → answer y ≡ answer z) → (c ≤ 15 → x ≡ meter_of bank c) → answer x ≡ answer (meter_of bank c)
-held_alike bank c answer x off held = by_order (dec_le c 15)
-  where
-    by_order : Dec (c ≤ 15) → answer x ≡ answer (meter_of bank c)
-    by_order (yes inside) = ap answer (held inside)
-    by_order (no above) = off (omega arith) x (meter_of bank c)
+module _ (bank : Bank) (c : ℕ) where
+  -- a call that the meter refuses leaves the bank as it came
+  pub bank_error : (x : Meter) (e : Refused) {z : MeterAnswer} → meter_told x (Err e) ≡ z → bank_told bank (Err e) ≡ bank_answer bank c z
+  unfolding bank_answer
+  bank_error x e is = rw (← is) (sym (choice_false _ _ (ne_eqb (number_of e.why) 0 (answered_not e))))
 
--- so the bank's answer is that of the meter that it holds
-module _ (bank : Bank) (c : ℕ) (x : Meter) (held : c ≤ 15 → x ≡ meter_of bank c) where
-  no_meter_matters : (met : Meter → MeterAnswer) → 15 < c → (y z : Meter) →
-      bank_answer bank c (cond (is_channel c) (met y) (no_channel y)) ≡ bank_answer bank c (cond (is_channel c) (met z) (no_channel z))
-  unfolding bank_answer no_channel
-  no_meter_matters met above y z = rw (is_no_channel above) refl
-
-  pub start_held : (m : ℕ) (ring : List ℤ) → bank_answer bank c (channel_start_answer x c m ring) ≡ bank_start_answer bank c m ring
-  unfolding bank_start_answer channel_start_answer
-  start_held m ring =
-      held_alike bank c (λ (y : Meter). bank_answer bank c (channel_start_answer y c m ring)) x (no_meter_matters (λ y. start_answer y m (channel_part c ring))) held
-
-  pub sample_held : (ring : List ℤ) (v : ℤ) → bank_answer bank c (channel_sample_answer x c ring v) ≡ bank_sample_answer bank c ring v
-  unfolding bank_sample_answer channel_sample_answer
-  sample_held ring v =
-      held_alike bank c (λ (y : Meter). bank_answer bank c (channel_sample_answer y c ring v)) x (no_meter_matters (λ y. sample_answer y (channel_part c ring) v)) held
-
-  pub ring_held : (ring : List ℤ) (v : ℤ) → channel_ring_left x c ring v ≡ bank_ring_left bank c ring v
-  unfolding bank_ring_left channel_ring_left
-  ring_held ring v = held_alike bank c (λ (y : Meter). channel_ring_left y c ring v) x (λ above y z. rw (is_no_channel above) refl) held
-
-  pub gap_held : bank_answer bank c (channel_gap_answer x c) ≡ bank_gap_answer bank c
-  unfolding bank_gap_answer channel_gap_answer
-  gap_held = held_alike bank c (λ (y : Meter). bank_answer bank c (channel_gap_answer y c)) x (no_meter_matters gap_answer) held
-
-  pub report_held : channel_report_answer x c ≡ bank_report_answer bank c
-  unfolding bank_report_answer channel_report_answer
-  report_held = held_alike bank c (λ (y : Meter). channel_report_answer y c) x (λ above y z. rw (is_no_channel above) refl) held
+  -- and one that it answers puts the new meter in its place
+  pub bank_given : (new : Meter) {z : MeterAnswer} → record { number = 0; place = 0; meter = new } ≡ z →
+      bank_told bank (Ok (with_meter bank c new)) ≡ bank_answer bank c z
+  unfolding bank_answer
+  bank_given new is = rw (← is) refl
 
 -- an answered call was on a channel
 pub answered_on_channel : (c : ℕ) (answered : MeterAnswer) (x : Meter) {z : MeterAnswer} → z ≡ cond (is_channel c) answered (no_channel x) → z.number ≡ 0 → c ≤ 15

@@ -1,3 +1,4 @@
 pub mod ChannelLaws
 pub mod ShareLaws
 pub mod Unique
+pub mod HeldLaws

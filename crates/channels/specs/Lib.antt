@@ -1,2 +1,3 @@
 pub mod Shares
 pub mod Answers
+pub mod Told

@@ -1,1 +1,2 @@
 pub mod Quieter
+pub mod Told

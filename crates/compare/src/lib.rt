@@ -2,18 +2,22 @@
 
 #![tactic(auto)]
 
-ghost use Rattle.std.specs.Prelude.{◌≡◌, ◌*◌, ◌^◌, ◌≤◌, ◌<◌, leb};
-ghost use Rattle.wide.specs.Wide.{value, halves};
+ghost use Rattle.std.specs.Prelude.{◌≡◌, ◌*◌, ◌^◌, ◌≤◌, leb};
+ghost use Rattle.wide.specs.Wide.{value};
 ghost use Rattle.compare.specs.Quieter.{quieter_answer, quieter_record};
+ghost use Rattle.compare.specs.Told.{which_of, which_told};
 
-use wide::Wide;
+use record::Refused;
+use sums::Sum;
 
-// What `which` says.
-const FIRST: u64 = 1;
+// Which of two records is the quieter.
+#[derive(Clone, Copy, Debug, PartialEq, Eq)]
+pub enum Choice {
+    First,
+    Second,
+}
 
-const SECOND: u64 = 2;
-
-// Which of the two records is the quieter: 1 the first, 2 the second; 0 beside a refusal.
+// The same as C is told it: 1 the first, 2 the second; 0 beside a refusal.
 #[repr(C)]
 #[derive(Clone, Copy)]
 pub struct QuieterAnswer {
@@ -23,76 +27,70 @@ pub struct QuieterAnswer {
 }
 
 // The record itself, of the two that are lent, which has the smaller Allan variance at factor m; on equality the first. If either is refused, the
-// empty part: `which_quieter` says why.
+// empty part: `compared` says why.
 pub fn quieter<'a>(first: &'a [i64], second: &'a [i64], m: u64) -> &'a [i64]
     ensures { result ≡ quieter_record m first.entry second.entry }
 {
-    let answer = which_quieter(first, second, m);
-    if answer.which == FIRST {
-        return first;
+    match compared(first, second, m) {
+        Ok(Choice::First) => first,
+        Ok(Choice::Second) => second,
+        Err(_) => &first[..0],
     }
-    if answer.which == SECOND {
-        return second;
-    }
-    &first[..0]
 }
 
 // Which of the two it is. Refuses 5, then 2, 1 and 3 of the first record, then the same of the second.
+pub fn compared(first: &[i64], second: &[i64], m: u64) -> Result<Choice, Refused>
+    ensures { which_told result ≡ quieter_answer m first.now second.now }
+{
+    let one = sums::allan(first, m)?;
+    let two = sums::allan(second, m)?;
+    if not_above(one, two) {
+        return Ok(Choice::First);
+    }
+    Ok(Choice::Second)
+}
+
+// Which of the two it is, as C is told it.
 pub fn which_quieter(first: &[i64], second: &[i64], m: u64) -> QuieterAnswer
     ensures { result ≡ quieter_answer m first.now second.now }
 {
-    let one = sums::allan_sum(first, m);
-    if one.number != 0 {
-        return refused(one.number, one.place);
-    }
-    let two = sums::allan_sum(second, m);
-    if two.number != 0 {
-        return refused(two.number, two.place);
-    }
-    let a = one.sum;
-    let b = two.sum;
-    if not_above(a, one.count, b, two.count) {
-        return answered(FIRST);
-    }
-    answered(SECOND)
+    QuieterAnswer::from(compared(first, second, m))
 }
 
-// Whether a / k is not above b / l, crosswise: each product stays below 2^114.
-fn not_above(a: Wide, k: u64, b: Wide, l: u64) -> bool
-    requires { (k ≤ 32768) × (l ≤ 32768) × (value a ≤ k * 2 ^ 84) × (value b ≤ l * 2 ^ 84) }
-    ensures { result ≡ leb (value a * l) (value b * k) }
-{
-    wide::at_most(times(a, l), times(b, k))
-}
+impl From<Choice> for u64 {
+    ghost from_gives = { λ choice which. which ≡ which_of choice };
 
-// A number in two halves times a count.
-fn times(a: Wide, count: u64) -> Wide
-    requires { (value a < 2 ^ 100) × (count ≤ 32768) }
-    ensures { result ≡ halves (value a * count) }
-{
-    let hi = a.hi * count;
-    let low = wide::product(a.lo, count);
-    wide::sum(Wide { hi, lo: 0 }, low)
-}
-
-// An answer.
-fn answered(which: u64) -> QuieterAnswer
-    ensures { result ≡ record { number = 0; place = 0; which = which } }
-{
-    QuieterAnswer {
-        number: 0,
-        place: 0,
-        which,
+    fn from(choice: Choice) -> u64 {
+        match choice {
+            Choice::First => 1,
+            Choice::Second => 2,
+        }
     }
 }
 
-// Nought beside a refusal.
-fn refused(number: u64, place: u64) -> QuieterAnswer
-    ensures { result ≡ record { number = number; place = place; which = 0 } }
-{
-    QuieterAnswer {
-        number,
-        place,
-        which: 0,
+impl From<Result<Choice, Refused>> for QuieterAnswer {
+    ghost from_gives = { λ compared answer. answer ≡ which_told compared };
+
+    fn from(compared: Result<Choice, Refused>) -> QuieterAnswer {
+        match compared {
+            Ok(choice) => QuieterAnswer {
+                number: 0,
+                place: 0,
+                which: choice.into(),
+            },
+            Err(refused) => QuieterAnswer {
+                number: refused.why.into(),
+                place: refused.place,
+                which: 0,
+            },
+        }
     }
+}
+
+// Whether one total over its count is not above another over its own, crosswise: the products are at most 2^114.
+fn not_above(one: Sum, two: Sum) -> bool
+    requires { (one.count ≤ 32768) × (two.count ≤ 32768) × (value one.total ≤ one.count * 2 ^ 84) × (value two.total ≤ two.count * 2 ^ 84) }
+    ensures { result ≡ leb (value one.total * two.count) (value two.total * one.count) }
+{
+    u128::from(one.total) * two.count as u128 <= u128::from(two.total) * one.count as u128
 }

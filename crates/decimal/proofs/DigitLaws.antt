@@ -2,18 +2,16 @@
 use mathlib.Core.Path.{◌≡◌, refl, sym, ap, ap₂, ◌∙◌}
 use mathlib.Core.Bool.{Bool, true, false, cond}
 use mathlib.Core.List.{List, [], ◌∷◌, ◌++◌, append_assoc, append-nil}
-use Prim.Native.Nat.{ℕ, zero, suc, ◌+◌, ◌-◌, ◌*◌, ◌/◌, ◌%◌, ◌^◌, ◌≤◌, ◌<◌}
-use native.Mathlib.Nat.{pow-suc, lt_of_lt_of_le}
+use Prim.Native.Nat.{ℕ, zero, suc, ◌+◌, ◌-◌, ◌/◌, ◌%◌, ◌^◌, ◌≤◌, ◌<◌}
+use native.Mathlib.Nat.{pow-suc}
 use native.Mathlib.Omega.{arith}
-use borrow.Author.Tests.{ltb-true, ltb-false, leb-true, lt-ltb, le-ltb}
+use borrow.Author.Tests.{ltb-true, ltb-false, lt-ltb, le-ltb}
 use lib.Dec.{ltb}
 use lib.ListN.{length, take, drop, set, length-append, length-drop, length-set, drop_of_length-le}
 use lib.Seq.{length-take-le, take-take, take-set-le, set_split, drop_at}
-use Rattle.laws.proofs.Halves.{two_digits_below, high_part_below}
-use Rattle.wide.specs.Wide.{value, division_of}
+use Rattle.laws.proofs.Halves.{high_part_below}
+use Rattle.wide.specs.Wide.{value}
 use Rattle.wide.specs.declared.Wide.{Wide}
-use Rattle.wide.specs.declared.Division.{Division}
-use Rattle.wide.proofs.WideLaws.{value_of_halves}
 use Rattle.decimal.specs.Decimal.{digits_within, decimal}
 
 -- ---- one digit, or more
@@ -55,29 +53,7 @@ some_digit k n = by_size (ltb n 10) refl
 
 -- every number of two halves has few enough
 pub wide_below : (w : Wide) → w.hi < 2 ^ 64 → w.lo < 2 ^ 64 → value w < 10 ^ 39
-wide_below w h l = lt_of_lt_of_le (two_digits_below (2 ^ 64) (2 ^ 64) w.hi w.lo h l) (leb-true (2 ^ 64 * 2 ^ 64) (10 ^ 39) refl)
-
--- a number whose high half is nought is its low half
-pub low_word : (w : Wide) → w.hi ≡ 0 → value w ≡ w.lo
-low_word w e = omega (arith, e)
-
-pub low_divided : (w : Wide) → w.hi ≡ 0 → w.lo < 2 ^ 64 →
-    record { defined = true; quotient = record { hi = 0; lo = w.lo / 10 }; remainder = w.lo % 10 } ≡ division_of (value w) 10
-unfolding division_of
-low_divided w e h =
-    let high : w.lo / 10 / 2 ^ 64 ≡ 0 = omega arith in
-    let low : w.lo / 10 % 2 ^ 64 ≡ w.lo / 10 = omega arith in
-    rw (low_word w e, high, low)
-
--- what a division by ten gives
-module _ (n : ℕ) {d : Division} (e : d ≡ division_of n 10) where
-  pub last_digit : d.remainder ≡ n % 10
-  unfolding division_of
-  last_digit = ap (λ (d : Division). d.remainder) e
-
-  pub digits_before : value d.quotient ≡ n / 10
-  unfolding division_of
-  digits_before = ap (λ (d : Division). value d.quotient) e ∙ value_of_halves (n / 10)
+wide_below w h l = omega arith
 
 -- ---- laid down from the last one on
 
@@ -146,11 +122,12 @@ module _ {whole : ℕ} {first digits : List ℕ} {rest i : ℕ} (l : Laid whole 
       )
 
   -- the last turn: one digit is left
-  pub all_laid : rest < 10 → (j ≡ 39 - length (decimal whole)) × (set digits j (0x30 + rest) ≡ take j first ++ decimal whole)
+  pub all_laid : rest < 10 → (j ≡ 39 - length (decimal whole)) × (set digits j (0x30 + rest % 10) ≡ take j first ++ decimal whole)
   all_laid h =
+      let last : rest % 10 ≡ rest = omega arith in
       let one : digits_within i rest ≡ (0x30 + rest) ∷ [] = ap (λ (n : ℕ). digits_within n rest) (sym here) ∙ one_digit j rest h in
       let whole_is : (0x30 + rest) ∷ drop i digits ≡ decimal whole = ap (λ (ds : List ℕ). ds ++ drop i digits) (sym one) ∙ l.back in (
         omega (arith, ap length whole_is, length-drop i digits, l.long, l.within, l.some),
-        set_split digits j (0x30 + rest) inside
+        rw last (set_split digits j (0x30 + rest) inside)
             ∙ ap₂ ◌++◌ (sym (take-set-le j digits j 0 (omega arith)) ∙ front_stays 0) (ap (λ (n : ℕ). (0x30 + rest) ∷ drop n digits) here ∙ whole_is),
       )

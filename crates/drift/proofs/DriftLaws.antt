@@ -4,31 +4,57 @@ use mathlib.Core.Path.{◌≡◌, refl, sym, ap, ◌∙◌}
 use mathlib.Core.Bool.{Bool, true, false}
 use mathlib.Core.List.{List}
 use Prim.Native.Nat.{ℕ, zero, suc, ◌+◌, ◌-◌, ◌*◌, ◌/◌, ◌%◌, ◌^◌, ◌≤◌, ◌<◌}
-use native.Mathlib.Nat.{mul-le-mul, mul-le-mul_left, mul-le-mul_right, div-add-mod', mod-lt, div-le_self, div-le_of_le-mul, le-mul_of_pos_right, zero-add}
+use native.Mathlib.Nat.{mul-le-mul, mul-le-mul_left, mul-le-mul_right, div-add-mod', mod-lt, div-le_of_le-mul, le-mul_of_pos_right, zero-add}
 use native.Mathlib.Omega.{arith}
 use borrow.Author.Tests.{lt-ltb, le-ltb, ltb-false, ne_eqb}
-use lib.Dec.{T, ltb}
+use lib.Dec.{ltb}
 use lib.IntN.{ℤ, pos, negsuc, nat_abs, ◌+ℤ◌, ◌-ℤ◌, ◌*ℤ◌}
 use lib.ListN.{length}
-use lib.Signed.{mag, lt_z, non_neg}
+use lib.Signed.{mag}
 use mir.Syntax.{w64}
-use mir.Val.{Fits, SFits, of_z, to_z}
+use mir.Val.{of_z, to_z}
 use Rattle.laws.specs.Lists.{at, first_failing}
 use Rattle.laws.proofs.Tests.{choice_false}
-use Rattle.laws.proofs.ListLaws.{tabulate_length, tabulate_entry, none_fails, written_so_far, written_so_far_length}
-use Rattle.laws.proofs.Parts.{plus, minus, one_part, size_is, small_fits, parts_of_equal}
-use Rattle.laws.proofs.Expressions.{Expression, $◌, ±◌, #◌, ◌∋◌, ◌⊕◌, ◌⊖◌, ◌⊗◌, ◌⊑◌, ◌⊏◌, ⟦◌⟧, sound, equation}
-use Rattle.laws.proofs.Machine.{Fit, machine, result, operation_fits, read_back, machine_is, lt_taken, lt_left, cast_fits, cast_is}
+use Rattle.laws.proofs.ListLaws.{tabulate_length, tabulate_entry}
+use Rattle.laws.proofs.Parts.{plus, minus, size_is, small_fits, parts_of_equal}
+use Rattle.laws.proofs.Expressions.{Expression, $◌, ±◌, #◌, ◌∋◌, ◌⊕◌, ◌⊖◌, ◌⊗◌, ⟦◌⟧, sound, equation}
+use Rattle.laws.proofs.Machine.{Fit, machine, read_back, machine_is}
 use Rattle.record.specs.Refusals.{none, refused, refused_if, ◌then◌, in_range, range_refusal}
 use Rattle.record.specs.declared.Refusal.{Refusal}
 use Rattle.sums.specs.Published.{difference}
 use Rattle.drift.specs.Drift.{drift_h, drift_p, drift_r, drift_refusal, drift_answer, floored, without_drift, removal_refusal}
-use Rattle.record.proofs.RefusalLaws.{refusal_stands, none_gives_way, first_refuses_nothing, rest_refuses_nothing, test_fails, all_in_range, unrefused_in_range, in_range_bounded}
+use Rattle.std.proofs.Common.{Err, cond, eqb}
+use Rattle.std.specs.Int.{int_div_euclid, int_rem_euclid}
+use Rattle.record.specs.Told.{number_of}
+use Rattle.record.specs.declared.grounds.Refused.{Refused}
+use Rattle.record.proofs.ToldLaws.{answered_not, refuses_nothing}
+use Rattle.drift.specs.Told.{drift_told}
+use Rattle.record.proofs.RefusalLaws.{refusal_stands, none_gives_way, first_refuses_nothing, rest_refuses_nothing, test_fails, unrefused_in_range, in_range_bounded}
 use Rattle.sums.proofs.PublishedLaws.{difference_means, difference_within}
 use Rattle.sums.proofs.TotalLaws.{difference_fits}
 use Rattle.drift.proofs.Floors.{floor_taken_apart}
 
 -- ---- 2, 1, 3: the record
+
+-- 2, 1: the number of samples alone
+abbrev pub sized : ℕ → Refusal
+sized n = refused_if (ltb 32768 n) 2 0 then refused_if (ltb n 3) 1 0
+
+-- where these refuse nothing
+pub sized_bounds : (n : ℕ) → none ≡ sized n → (n ≤ 32768) × (3 ≤ n)
+sized_bounds n is =
+    let many = refused_if (ltb 32768 n) 2 0 in
+    let few = refused_if (ltb n 3) 1 0 in
+    let nothing = refuses_nothing is in
+    (ltb-false 32768 n (test_fails _ 2 0 (omega arith) (first_refuses_nothing many few nothing)), ltb-false n 3 (test_fails _ 1 0 (omega arith) (rest_refuses_nothing many few nothing)))
+
+-- where one of the first two refuses, what comes after them does not matter
+first_two_stand : (first second rest : Refusal) → ((first then second).number ≡ 0 → ⊥) → (first then second then rest) ≡ (first then second)
+first_two_stand first second rest = by_number (eqb first.number 0)
+  where
+    by_number : (nought : Bool) → ((cond nought second first).number ≡ 0 → ⊥) → cond nought (second then rest) first ≡ cond nought second first
+    by_number true some = refusal_stands second rest some
+    by_number false some = refl
 
 -- what is known where these refuse nothing
 pub record Drifting (xs : List ℤ) : Type 0 where
@@ -51,6 +77,10 @@ module _ (xs : List ℤ) where
     unfolding drift_refusal
     drift_by_range h = simp (le-ltb 32768 (length xs) not_too_many, le-ltb (length xs) 3 h)
 
+  pub drift_size_refuses : ((sized (length xs)).number ≡ 0 → ⊥) → drift_refusal xs ≡ sized (length xs)
+  unfolding drift_refusal
+  drift_size_refuses some = first_two_stand (refused_if (ltb 32768 (length xs)) 2 0) (refused_if (ltb (length xs) 3) 1 0) (range_refusal xs) some
+
   pub unrefused_drifting : (drift_refusal xs).number ≡ 0 → Drifting xs
   unfolding drift_refusal
   unrefused_drifting e =
@@ -66,15 +96,6 @@ module _ (xs : List ℤ) where
 
   pub none_drifting : drift_refusal xs ≡ none → Drifting xs
   none_drifting e = unrefused_drifting (ap (λ (r : Refusal). r.number) e)
-
-  pub unrefused_drift_none : (drift_refusal xs).number ≡ 0 → drift_refusal xs ≡ none
-  unrefused_drift_none e =
-      let s = unrefused_drifting e in
-      drift_by_range s.not_too_many s.enough ∙ all_in_range xs (none_fails in_range (pos 0) xs s.in_range_lem)
-
-  pub range_none_drift_none : length xs ≤ 32768 → 3 ≤ length xs → {r : Refusal} → r ≡ range_refusal xs → r.number ≡ 0 → drift_refusal xs ≡ none
-  range_none_drift_none few enough e unrefused =
-      unrefused_drift_none (ap (λ (s : Refusal). s.number) (drift_by_range few enough ∙ sym e) ∙ unrefused)
 
 -- ---- h, P and R
 
@@ -131,92 +152,42 @@ module _ (xs : List ℤ) (unrefused : drift_refusal xs ≡ none) where
 
 -- ---- P taken apart by R, rounded down
 
--- how far P lies below -1
-abbrev pub under_of : ℤ → Expression
-under_of p = # 0 ⊖ ($ p ⊕ # 1)
-
--- a natural as a signed number, and taken from nought
+-- a natural as a signed number
 abbrev pub signed_of : ℕ → Expression
 signed_of q = q ∋ pos q
 
-abbrev pub below_of : ℕ → Expression
-below_of q = # 0 ⊖ signed_of q
+-- the quotient times the divisor, and the remainder, which is below the divisor
+rounded_down : (z : ℤ) (r : ℕ) → 0 < r →
+    let rest = nat_abs (int_rem_euclid z (pos r)) in
+    (rest < r) × (z ≡ int_div_euclid z (pos r) *ℤ pos r +ℤ pos rest)
+rounded_down (pos n) r some = (mod-lt n some, equation (# n) (# (n / r) ⊗ # r ⊕ # (n % r)) (omega (arith, div-add-mod' n r)))
+rounded_down (negsuc n) r some =
+    (omega (arith, some), equation (± negsuc n) (± negsuc (n / r) ⊗ # r ⊕ # (r - 1 - n % r)) (omega (arith, div-add-mod' n r, mod-lt n some)))
 
-pub below_fits : (q : ℕ) → SFits w64 (pos q) → Fit w64 (below_of q)
-below_fits q fits = omega (arith, fits.sfits)
+module _ (xs : List ℤ) (unrefused : drift_refusal xs ≡ none) {r : ℕ} (r-is : r ≡ drift_r xs) where
+  pub r_bounds : (0 < r) × (r < 2 ^ 28)
+  r_bounds = rw r-is (r_within xs unrefused)
 
-module _ (k r : ℕ) (small : k ≤ 2 ^ 42) (positive : 0 < r) (p : ℤ) where
-  split_below : plus p ≡ 0 → minus p ≡ k + 1 → p ≡ machine w64 (below_of (k / r + 1)) *ℤ pos r +ℤ pos (r - 1 - k % r)
-  split_below above below =
-      equation ($ p) ((# 0 ⊖ # (k / r + 1)) ⊗ # r ⊕ # (r - 1 - k % r)) (omega (arith, div-add-mod' k r, mod-lt k positive))
-      ∙ ap (λ (z : ℤ). z *ℤ pos r +ℤ pos (r - 1 - k % r)) (sym (machine_is w64 (below_of (k / r + 1)) (below_fits (k / r + 1) (small_fits (pos (k / r + 1)) (omega (arith, div-le_self k r))))))
+  r_signed : to_z w64 r ≡ pos r
+  r_signed = machine_is w64 (signed_of r) (omega (arith, r_bounds))
 
-  split_above : minus p ≡ 0 → plus p ≡ k → p ≡ machine w64 (signed_of (k / r)) *ℤ pos r +ℤ pos (k % r)
-  split_above below above =
-      equation ($ p) (# (k / r) ⊗ # r ⊕ # (k % r)) (omega (arith, div-add-mod' k r))
-      ∙ ap (λ (z : ℤ). z *ℤ pos r +ℤ pos (k % r)) (sym (machine_is w64 (signed_of (k / r)) (omega (arith, div-le_self k r))))
+  pub divisor_some : 0 < of_z w64 (to_z w64 r)
+  divisor_some = rw r_signed (omega (arith, r_bounds))
 
-module _ (xs : List ℤ) (unrefused : drift_refusal xs ≡ none) {p : ℤ} (p-is : p ≡ drift_p xs) {r : ℕ} (r-is : r ≡ drift_r xs) where
-  p_within : nat_abs p ≤ 2 ^ 42
-  p_within = rw p-is (figure_within xs unrefused)
+  pub divisor_no_minus_one : of_z w64 (to_z w64 r) ≡ 18446744073709551615 → ⊥
+  divisor_no_minus_one = rw r_signed (λ e. absurd (omega (arith, e, r_bounds)))
 
-  pub r_some : 0 < r
-  r_some = rw r-is (r_within xs unrefused).0
+  module _ {p : ℤ} (p-is : p ≡ drift_p xs) where
+    p_read : to_z w64 (of_z w64 p) ≡ drift_p xs
+    p_read = read_back {w = w64} p-is (small_fits (drift_p xs) (omega (arith, figure_within xs unrefused)))
 
-  figure_read : Fit w64 ($ p)
-  figure_read = small_fits p (omega (arith, p_within))
-
-  pub under_fits : Fit w64 (under_of p)
-  under_fits = omega (arith, figure_read, p_within, size_is p)
-
-  module _ (negative : lt_z (machine w64 ($ p)) (pos 0) ≡ true) where
-    -- how far the machine says that P lies below -1
-    abbrev under : ℕ
-    under = nat_abs (machine w64 (under_of p))
-
-    p_below : $ p ⊏ # 0
-    p_below = lt_taken w64 ($ p) (# 0) figure_read (omega arith) negative
-
-    pub under_cast : T (non_neg (machine w64 (under_of p))) × Fits w64 under
-    under_cast = cast_fits w64 w64 (under_of p) under_fits (omega (arith, p_below, p_within, size_is p))
-
-    under_is : (plus p ≡ 0) × (minus p ≡ under + 1)
-    under_is = omega (arith, p_below, one_part p, cast_is w64 (under_of p) (minus p - 1) under_fits (omega (arith, p_below, one_part p)))
-
-    pub under_within : (under ≤ 2 ^ 42) × (under / r ≤ 2 ^ 42) × (under % r < r)
-    under_within = omega (arith, under_is, p_within, size_is p, div-le_self under r, mod-lt under r_some)
-
-    -- the quotient with one more is taken from nought within a word
-    pub under_taken : SFits w64 (result w64 (below_of (under / r + 1)))
-    under_taken =
-        operation_fits w64 (below_of (under / r + 1)) (below_fits (under / r + 1) (small_fits (pos (under / r + 1)) (omega (arith, under_within))))
-
-    pub split_under :
-        let rest = r - 1 - under % r in
-        (rest < drift_r xs) × (drift_p xs ≡ machine w64 (below_of (under / r + 1)) *ℤ pos (drift_r xs) +ℤ pos rest)
-    split_under = rw (← r-is) (omega (arith, r_some), sym p-is ∙ split_below under r under_within.0 r_some p under_is.0 under_is.1)
-
-  module _ (not_negative : lt_z (machine w64 ($ p)) (pos 0) ≡ false) where
-    -- how far the machine says that P lies above nought
-    abbrev over : ℕ
-    over = nat_abs (machine w64 ($ p))
-
-    p_above : # 0 ⊑ $ p
-    p_above = lt_left w64 ($ p) (# 0) figure_read (omega arith) not_negative
-
-    pub over_cast : T (non_neg (machine w64 ($ p))) × Fits w64 over
-    over_cast = cast_fits w64 w64 ($ p) figure_read (omega (arith, p_above, p_within, size_is p))
-
-    over_is : (minus p ≡ 0) × (plus p ≡ over)
-    over_is = omega (arith, p_above, one_part p, cast_is w64 ($ p) (plus p) figure_read (omega (arith, p_above, one_part p)))
-
-    pub over_within : (over ≤ 2 ^ 42) × (over / r ≤ 2 ^ 42)
-    over_within = omega (arith, over_is, p_within, size_is p, div-le_self over r)
-
-    pub split_over :
-        let rest = over % r in
-        (rest < drift_r xs) × (drift_p xs ≡ machine w64 (signed_of (over / r)) *ℤ pos (drift_r xs) +ℤ pos rest)
-    split_over = rw (← r-is) (mod-lt over r_some, sym p-is ∙ split_above over r over_within.0 r_some p over_is.0 over_is.1)
+    pub taken_apart : {q s : ℤ} → q ≡ int_div_euclid (to_z w64 (of_z w64 p)) (to_z w64 r) → s ≡ int_rem_euclid (to_z w64 (of_z w64 p)) (to_z w64 r) →
+        mag q < 2 ^ 63 → mag s < 2 ^ 63 →
+        let rest = nat_abs (to_z w64 (of_z w64 s)) in
+        (rest < drift_r xs) × (drift_p xs ≡ to_z w64 (of_z w64 q) *ℤ pos (drift_r xs) +ℤ pos rest)
+    taken_apart {q} {s} q-is s-is q_fits s_fits =
+        rw (read_back {w = w64} {y = q} refl (record { sfits = q_fits }), read_back {w = w64} {y = s} refl (record { sfits = s_fits }), q-is, s-is, p_read, r_signed, ← r-is)
+        (rounded_down (drift_p xs) r r_bounds.0)
 
 -- ---- T = i (i-1) / 2
 
@@ -338,20 +309,12 @@ module _ (xs : List ℤ) where
     pub result_tells : {answer b : Bool} → answer ≡ in_range (to_z w64 (of_z w64 y)) → answer ≡ b → in_range (at (without_drift xs) i) ≡ b
     result_tells e t = ap in_range (sym result_read) ∙ sym e ∙ t
 
-  -- a buffer with room keeps its length while the results are written
-  pub so_far_length : (buffer : List ℤ) {i : ℕ} {now : List ℤ} → (i ≤ length xs) × (now ≡ written_so_far i (without_drift xs) buffer) →
-      length xs ≤ length buffer → length now ≡ length buffer
-  so_far_length buffer {i} so_far room =
-      ap length so_far.1
-      ∙ written_so_far_length (without_drift xs) buffer i (omega (arith, without_drift_length)) (omega arith)
-
 -- ---- the answer of the drift figure
 
 module _ (xs : List ℤ) where
-  pub figure_refused : {r : Refusal} → r ≡ drift_refusal xs → (r.number ≡ 0 → ⊥) →
-      record { number = r.number; place = r.place; p = pos 0; r = 0 } ≡ drift_answer xs
+  pub figure_error : (e : Refused) → refused (number_of e.why) e.place ≡ drift_refusal xs → drift_told (Err e) ≡ drift_answer xs
   unfolding drift_answer
-  figure_refused {r} e refuses = rw (← e) (sym (choice_false _ _ (ne_eqb r.number 0 refuses)))
+  figure_error e is = rw (← is) (sym (choice_false _ _ (ne_eqb (number_of e.why) 0 (answered_not e))))
 
   pub figure_answered : drift_refusal xs ≡ none → {y : ℤ} {r : ℕ} → y ≡ drift_p xs → r ≡ drift_r xs →
       record { number = 0; place = 0; p = to_z w64 (of_z w64 y); r = r } ≡ drift_answer xs
@@ -360,6 +323,10 @@ module _ (xs : List ℤ) where
       rw (unrefused, r-is) (ap (λ (z : ℤ). record { number = 0; place = 0; p = z; r = drift_r xs }) (read_back {w = w64} y-is (small_fits (drift_p xs) (omega (arith, figure_within xs unrefused)))))
 
 -- ---- 2, 1, 6, 3 at a sample, 3 at a result: removal
+
+-- 3 at a result
+abbrev pub results_refusal : List ℤ → Refusal
+results_refusal xs = let outside = first_failing in_range (without_drift xs) in refused_if (ltb outside (length xs)) 3 outside
 
 module _ (xs : List ℤ) (room : ℕ) where
   pub removal_too_many : 32768 < length xs → removal_refusal xs room ≡ refused 2 0
@@ -392,5 +359,15 @@ module _ (xs : List ℤ) (room : ℕ) where
           pub removal_result_outside : (i : ℕ) → i ≡ outside → i < length xs → removal_refusal xs room ≡ refused 3 i
           removal_result_outside i e h = by_values ∙ none_gives_way r _ unrefused ∙ simp (← e, lt-ltb i (length xs) h)
 
-          pub removal_none : (i : ℕ) → i ≡ outside → length xs ≤ i → removal_refusal xs room ≡ none
-          removal_none i e h = by_values ∙ none_gives_way r _ unrefused ∙ simp (← e, le-ltb i (length xs) h)
+  pub removal_size_refuses : ((sized (length xs)).number ≡ 0 → ⊥) → removal_refusal xs room ≡ sized (length xs)
+  unfolding removal_refusal
+  removal_size_refuses some =
+      let outside = first_failing in_range (without_drift xs) in
+      first_two_stand (refused_if (ltb 32768 (length xs)) 2 0) (refused_if (ltb (length xs) 3) 1 0)
+      (refused_if (ltb room (length xs)) 6 0 then range_refusal xs then refused_if (ltb outside (length xs)) 3 outside) some
+
+  -- where the samples refuse nothing and there is room, the results decide
+  pub removal_by_results : drift_refusal xs ≡ none → length xs ≤ room → removal_refusal xs room ≡ results_refusal xs
+  removal_by_results unrefused has_room =
+      let known = none_drifting xs unrefused in
+      by_values known.not_too_many known.enough has_room {r = none} (sym unrefused ∙ drift_by_range xs known.not_too_many known.enough)

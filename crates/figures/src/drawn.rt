@@ -1,5 +1,7 @@
 // Drawn numbers, at the ends of what is drawn and where a double begins to leave digits out.
-use crate::print::{double, number, refusal, text};
+use crate::print::{Double, Told};
+use plot::drawn;
+use std::io;
 use std::io::Stdout;
 
 // Deviations in units of 2^-20.
@@ -33,22 +35,11 @@ const ROWS: [u64; 27] = [
     18446744073709551615,
 ];
 
-pub(crate) fn figures(out: Stdout) {
+// A line for each: the double of r, or its refusal.
+pub(crate) fn figures(out: Stdout) -> io::Result<()> {
     for r in ROWS {
-        line(out, r);
+        let told = Told(drawn::number(r).map(Double));
+        println!(out; "drawn number of {r}: {told}")?;
     }
-}
-
-// One line: the double of r, or its refusal.
-fn line(out: Stdout, r: u64) {
-    text(out, b"drawn number of ");
-    number(out, r);
-    text(out, b": ");
-    let answer = plot::drawn::drawn_number(r);
-    if answer.number != 0 {
-        refusal(out, answer.number, answer.place);
-    } else {
-        double(out, answer.value);
-    }
-    text(out, b"\n");
+    Ok(())
 }

@@ -1,134 +1,101 @@
 // Numbers in two halves, at the ends of what they hold.
-use crate::print::{number, text};
 use std::io::Stdout;
-use wide::Wide;
+use std::{fmt, io};
+use wide::{Division, Wide};
 
 // The largest word.
 const MOST: u64 = 18446744073709551615;
+// 2^126 - 1.
+const BELOW: Wide = Wide {
+    hi: 4611686018427387903,
+    lo: MOST,
+};
+// 2^126.
+const LIMIT: Wide = Wide {
+    hi: 4611686018427387904,
+    lo: 0,
+};
+// 2^128 - 1.
+const END: Wide = Wide { hi: MOST, lo: MOST };
 
-pub(crate) fn figures(out: Stdout) {
-    products_and_sums(out);
-    quotients(out);
-    roots(out);
-    orders(out);
+// The halves of a wide number in words.
+#[derive(Clone, Copy)]
+struct Named(Wide);
+
+// A quotient and a remainder, or that there is none.
+#[derive(Clone, Copy)]
+struct Divided(Option<Division>);
+
+impl fmt::Display for Named {
+    fn fmt<W: fmt::Write>(&self, f: &mut fmt::Formatter<W>) -> fmt::Result {
+        write!(f, "high {}, low {}", self.0.hi, self.0.lo)
+    }
+}
+
+impl fmt::Display for Divided {
+    fn fmt<W: fmt::Write>(&self, f: &mut fmt::Formatter<W>) -> fmt::Result {
+        match self.0 {
+            Some(division) => write!(
+                f,
+                "remainder {}, quotient: {}",
+                division.remainder,
+                Named(division.quotient)
+            ),
+            None => f.write_str("not defined"),
+        }
+    }
+}
+
+// All lines.
+pub(crate) fn figures(out: Stdout) -> io::Result<()> {
+    products_and_sums(out)?;
+    quotients(out)?;
+    roots(out)?;
+    orders(out)
 }
 
 // Products and sums that pass one half, and the sum that passes both.
-fn products_and_sums(out: Stdout) {
-    line(out, b"(2^64 - 1) squared", wide::product(MOST, MOST));
-    line(
-        out,
-        b"2^41 squared",
-        wide::product(2199023255552, 2199023255552),
-    );
-    line(out, b"2^64 - 1 and 1", wide::sum(low(MOST), low(1)));
-    line(
-        out,
-        b"2^128 - 1 and 1",
-        wide::sum(Wide { hi: MOST, lo: MOST }, low(1)),
-    );
+fn products_and_sums(out: Stdout) -> io::Result<()> {
+    println!(out; "(2^64 - 1) squared: {}", Named(wide::product(MOST, MOST)))?;
+    println!(out;
+        "2^41 squared: {}",
+        Named(wide::product(2199023255552, 2199023255552))
+    )?;
+    println!(out; "2^64 - 1 and 1: {}", Named(wide::sum(low(MOST), low(1))))?;
+    println!(out; "2^128 - 1 and 1: {}", Named(wide::sum(END, low(1))))
 }
 
 // Quotients, and the one that is not defined.
-fn quotients(out: Stdout) {
-    quotient(
-        out,
-        b"2^126 by 7",
-        Wide {
-            hi: 4611686018427387904,
-            lo: 0,
-        },
-        7,
-    );
-    quotient(
-        out,
-        b"2^128 - 1 by 2^64 - 1",
-        Wide { hi: MOST, lo: MOST },
-        MOST,
-    );
-    quotient(out, b"5 by 0", low(5), 0);
+fn quotients(out: Stdout) -> io::Result<()> {
+    println!(out; "2^126 by 7: {}", Divided(wide::divided(LIMIT, 7)))?;
+    println!(out;
+        "2^128 - 1 by 2^64 - 1: {}",
+        Divided(wide::divided(END, MOST))
+    )?;
+    println!(out; "5 by 0: {}", Divided(wide::divided(low(5), 0)))
 }
 
 // Roots at the limit of a sum and at the end of both halves.
-fn roots(out: Stdout) {
-    root(
-        out,
-        b"2^126 - 1",
-        Wide {
-            hi: 4611686018427387903,
-            lo: MOST,
-        },
-    );
-    root(
-        out,
-        b"2^126",
-        Wide {
-            hi: 4611686018427387904,
-            lo: 0,
-        },
-    );
-    root(out, b"2^128 - 1", Wide { hi: MOST, lo: MOST });
+fn roots(out: Stdout) -> io::Result<()> {
+    println!(out; "root of 2^126 - 1: {}", wide::root(BELOW))?;
+    println!(out; "root of 2^126: {}", wide::root(LIMIT))?;
+    println!(out; "root of 2^128 - 1: {}", wide::root(END))
 }
 
 // The rules' deviation passes its test, and one more does not.
-fn orders(out: Stdout) {
-    order(
-        out,
-        b"1482910 squared times 8, 16 times 2^40",
-        wide::square_at_most(1482910, 8, low(16)),
-    );
-    order(
-        out,
-        b"1482911 squared times 8, 16 times 2^40",
-        wide::square_at_most(1482911, 8, low(16)),
-    );
+fn orders(out: Stdout) -> io::Result<()> {
+    for r in [1482910, 1482911] {
+        let order = if wide::square_at_most(r, 8, low(16)) {
+            "not above"
+        } else {
+            "above"
+        };
+        println!(out; "{r} squared times 8, 16 times 2^40: {order}")?;
+    }
+    Ok(())
 }
 
 // A word as a wide number.
 fn low(lo: u64) -> Wide {
-    Wide { hi: 0, lo }
-}
-
-// One line: what was worked, and the two halves.
-fn line(out: Stdout, words: &[u8], res: Wide) {
-    text(out, words);
-    text(out, b": high ");
-    number(out, res.hi);
-    text(out, b", low ");
-    number(out, res.lo);
-    text(out, b"\n");
-}
-
-// One line: a quotient and a remainder, or that there is none.
-fn quotient(out: Stdout, words: &[u8], a: Wide, d: u64) {
-    let result = wide::divided(a, d);
-    let defined = result.defined;
-    if defined {
-        text(out, words);
-        text(out, b": remainder ");
-        number(out, result.remainder);
-        line(out, b", quotient", result.quotient);
-        return;
-    }
-    text(out, words);
-    text(out, b": not defined\n");
-}
-
-// One line: a root.
-fn root(out: Stdout, words: &[u8], a: Wide) {
-    text(out, b"root of ");
-    text(out, words);
-    text(out, b": ");
-    number(out, wide::root(a));
-    text(out, b"\n");
-}
-
-// One line: whether the first is not above the second.
-fn order(out: Stdout, words: &[u8], at_most: bool) {
-    text(out, words);
-    if at_most {
-        text(out, b": not above\n");
-        return;
-    }
-    text(out, b": above\n");
+    Wide::from(lo)
 }

@@ -1,6 +1,6 @@
 // Figures that the library works as it runs, a line each: the rules' that bear no star, numbers at the ends of what two halves hold, long
 // records at many factors, streams fed to the running meter, float readings, buffers that are filled, and what the app draws. The second
-// implementation, rust/src/bin/figures, prints the same lines from its own working.
+// implementation, rust/independent/src/bin/figures, prints the same lines from its own working.
 
 #![tactic(auto)]
 
@@ -17,16 +17,24 @@ mod streams;
 mod sweep;
 mod types;
 
+use std::io;
+use std::io::Stdout;
+
+// A write that fails ends the lines and is not told.
 fn main(rt: HostRuntime) {
-    let out = rt.stdout();
-    refusals::figures(out);
-    halves::figures(out);
-    sweep::figures(out);
-    streams::figures(out);
-    floats::figures(out);
-    buffers::figures(out);
-    drawn::figures(out);
-    dots::figures(out);
-    types::figures(out);
-    bars::figures(out);
+    let _ = figures(rt.stdout());
+}
+
+// All lines.
+fn figures(out: Stdout) -> io::Result<()> {
+    refusals::figures(out)?;
+    halves::figures(out)?;
+    sweep::figures(out)?;
+    streams::figures(out)?;
+    floats::figures(out)?;
+    buffers::figures(out)?;
+    drawn::figures(out)?;
+    dots::figures(out)?;
+    types::figures(out)?;
+    bars::figures(out)
 }

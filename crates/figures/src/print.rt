@@ -1,73 +1,42 @@
-// Bytes, numbers, sums and refusals to standard output. A write that fails is not told.
-use std::io::Stdout;
-use sums::Part;
-use wide::Wide;
-
-// Bytes as they stand.
-pub(crate) fn text(out: Stdout, bytes: &[u8]) {
-    let _ = out.write_all(bytes);
-}
-
-// A number in decimal digits.
-pub(crate) fn number(out: Stdout, n: u64) {
-    let _ = out.print(n);
-}
-
-// A signed number in decimal digits.
-pub(crate) fn signed(out: Stdout, n: i64) {
-    if n < 0 {
-        text(out, b"-");
-    }
-    number(out, wide::size(n));
-}
-
-// Signed numbers, each after a space.
-pub(crate) fn values(out: Stdout, row: &[i64]) {
-    for n in row {
-        text(out, b" ");
-        signed(out, *n);
-    }
-}
+// How a line of these figures shows a double, a fraction, and what stands for a figure that there is not.
+use record::Refused;
+use shown::{Halves, Refusal};
+use std::fmt;
+use variances::fractions;
 
 // A double, exactly: its 64 bits in 16 hexadecimal digits. What is not a number has many patterns, and is called so.
-pub(crate) fn double(out: Stdout, x: f64) {
-    if x.is_nan() {
-        text(out, b"not a number");
-        return;
+#[derive(Clone, Copy)]
+pub(crate) struct Double(pub(crate) f64);
+
+// A numerator in halves, and its denominator.
+#[derive(Clone, Copy)]
+pub(crate) struct Fraction(pub(crate) fractions::Fraction);
+
+// A figure, or the refusal that stands for it.
+#[derive(Drop)]
+pub(crate) struct Told<T>(pub(crate) Result<T, Refused>);
+
+impl fmt::Display for Double {
+    fn fmt<W: fmt::Write>(&self, f: &mut fmt::Formatter<W>) -> fmt::Result {
+        if self.0.is_nan() {
+            f.write_str("not a number")
+        } else {
+            write!(f, "{:016x}", self.0.to_bits())
+        }
     }
-    let bits = f64::to_bits(x);
-    let _ = print!(out; "{bits:016x}");
 }
 
-// A refusal's number and place.
-pub(crate) fn refusal(out: Stdout, by: u64, place: u64) {
-    text(out, b"refused ");
-    number(out, by);
-    text(out, b" at ");
-    number(out, place);
-}
-
-// The halves of a wide number.
-pub(crate) fn halves(out: Stdout, n: Wide) {
-    number(out, n.hi);
-    text(out, b":");
-    number(out, n.lo);
-}
-
-// A sum's halves and its count.
-pub(crate) fn sum(out: Stdout, total: Wide, count: u64) {
-    halves(out, total);
-    text(out, b" of ");
-    number(out, count);
-}
-
-// A part of an answer: a sum with its count, or its own refusal.
-pub(crate) fn part(out: Stdout, part: Part) {
-    if part.number != 0 {
-        text(out, b" refused ");
-        number(out, part.number);
-        return;
+impl fmt::Display for Fraction {
+    fn fmt<W: fmt::Write>(&self, f: &mut fmt::Formatter<W>) -> fmt::Result {
+        write!(f, "{}/{}", Halves(self.0.numerator), self.0.denominator)
     }
-    text(out, b" ");
-    sum(out, part.sum, part.count);
+}
+
+impl<T: fmt::Display> fmt::Display for Told<T> {
+    fn fmt<W: fmt::Write>(&self, f: &mut fmt::Formatter<W>) -> fmt::Result {
+        match &self.0 {
+            Ok(figure) => write!(f, "{figure}"),
+            Err(refused) => write!(f, "{}", Refusal(*refused)),
+        }
+    }
 }

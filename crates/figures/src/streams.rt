@@ -1,117 +1,88 @@
 // Streams fed to the running meter, sample by sample, beside the sums of the whole record.
-use crate::print::{number, part, text};
 use crate::records;
-use meter::Meter;
+use crate::records::Rule;
+use meter::{Meter, Sums};
+use record::Refused;
+use shown::{OnePart, Refusal};
+use std::io;
 use std::io::Stdout;
-use sums::{Part, SumAnswer};
-use wide::Wide;
 
-pub(crate) fn figures(out: Stdout) {
-    of_rule(out, b"ends", records::ENDS);
-    of_rule(out, b"blocks", records::BLOCKS);
-    of_rule(out, b"scattered", records::SCATTERED);
-}
-
-// The lines of one record.
-fn of_rule(out: Stdout, name: &[u8], rule: u8) {
-    let mut samples = [0i64; 32768];
-    records::fill(&mut samples, rule);
-    all_factors(out, name, &samples);
-}
-
+// The records.
+const RECORDS: [(&str, Rule); 3] = [
+    ("ends", Rule::Ends),
+    ("blocks", Rule::Blocks),
+    ("scattered", Rule::Scattered),
+];
 // Factors and lengths: before a sum is due, as it becomes due, and long after.
-fn all_factors(out: Stdout, name: &[u8], whole: &[i64; 32768]) {
-    let samples: &[i64] = whole;
-    one_stream(out, name, samples, 1, 2);
-    one_stream(out, name, samples, 1, 3);
-    one_stream(out, name, samples, 2, 5);
-    one_stream(out, name, samples, 2, 6);
-    one_stream(out, name, samples, 7, 100);
-    one_stream(out, name, samples, 500, 1501);
-    one_stream(out, name, samples, 500, 32768);
-    one_stream(out, name, samples, 10922, 32768);
-}
+const SIZES: [(u64, usize); 8] = [
+    (1, 2),
+    (1, 3),
+    (2, 5),
+    (2, 6),
+    (7, 100),
+    (500, 1501),
+    (500, 32768),
+    (10922, 32768),
+];
 
-// One record's two lines: the meter's, and the whole record's.
-fn one_stream(out: Stdout, name: &[u8], samples: &[i64], m: u64, length: usize) {
-    if length <= samples.len() {
-        compare(out, name, &samples[..length], m);
+// The lines of each record at each size.
+pub(crate) fn figures(out: Stdout) -> io::Result<()> {
+    let mut samples = [0i64; 32768];
+    for (name, rule) in RECORDS {
+        records::fill(&mut samples, rule);
+        sizes(out, name, &samples)?;
     }
+    Ok(())
 }
 
-// The meter is started, fed a part, started again in the middle and fed the whole; its report stands above the sums.
-fn compare(out: Stdout, name: &[u8], samples: &[i64], m: u64) {
+// The lines of one record at each size.
+fn sizes(out: Stdout, name: &str, samples: &[i64]) -> io::Result<()> {
+    for (m, length) in SIZES {
+        if let Some(first) = samples.get(..length) {
+            compare(out, name, first, m)?;
+        }
+    }
+    Ok(())
+}
+
+// Two lines, the meter's and the whole record's.
+fn compare(out: Stdout, name: &str, samples: &[i64], m: u64) -> io::Result<()> {
+    let length = samples.len();
+    match streamed(samples, m) {
+        Ok(sums) => println!(out;
+            "stream {name} m {m} N {length} meter{}{}",
+            OnePart::from(sums.allan),
+            OnePart::from(sums.modified)
+        )?,
+        Err(refused) => println!(out; "stream {name} m {m} N {length} meter {}", Refusal(refused))?,
+    }
+    let allan = sums::allan(samples, m).map_err(|refused| refused.why);
+    let modified = sums::modified(samples, m).map_err(|refused| refused.why);
+    println!(out;
+        "stream {name} m {m} N {length} record{}{}",
+        OnePart(allan),
+        OnePart(modified)
+    )
+}
+
+// The sums of a meter that is fed the samples, on a ring as another meter leaves it.
+fn streamed(samples: &[i64], m: u64) -> Result<Sums, Refused> {
     let mut ring = [0i64; 32766];
-    let first = fed(started(nothing(), m, &ring), samples, &mut ring);
-    let last = fed(started(first, m, &ring), samples, &mut ring);
-    let report = last.report();
-    heading(out, name, m, samples.len());
-    text(out, b" meter");
-    part(out, report.allan);
-    part(out, report.modified);
-    text(out, b"\n");
-    heading(out, name, m, samples.len());
-    text(out, b" record");
-    part(out, part_of(sums::allan_sum(samples, m)));
-    part(out, part_of(sums::modified_sum(samples, m)));
-    text(out, b"\n");
-}
-
-// A meter of all noughts.
-fn nothing() -> Meter {
-    Meter {
-        m: 0,
-        n: 0,
-        stretch: 0,
-        k: 0,
-        c: 0,
-        a: Wide { hi: 0, lo: 0 },
-        b: Wide { hi: 0, lo: 0 },
-        window: 0,
-    }
-}
-
-// The meter that a start gives back.
-fn started(meter: Meter, m: u64, ring: &[i64; 32766]) -> Meter {
-    let lent: &[i64] = ring;
-    let answer = meter.start(m, lent);
-    answer.meter
+    fed(Meter::new(m, &ring)?, samples, &mut ring)?;
+    fed(Meter::new(m, &ring)?, samples, &mut ring)?.sums()
 }
 
 // The meter with all samples, and one out of range before each, which it refuses.
-fn fed(meter: Meter, samples: &[i64], ring: &mut [i64; 32766]) -> Meter {
+fn fed(meter: Meter, samples: &[i64], ring: &mut [i64; 32766]) -> Result<Meter, Refused> {
     let mut now = meter;
     for x in samples {
-        now = with_refused(now, ring, *x);
+        now = with_refused(now, ring, *x)?;
     }
-    now
+    Ok(now)
 }
 
-// The meter after a sample out of range and one that may be in it.
-fn with_refused(meter: Meter, ring: &mut [i64; 32766], x: i64) -> Meter {
-    let lent: &mut [i64] = ring;
-    let refused = meter.sample(lent, 1099511627777);
-    let same = refused.meter;
-    let answer = same.sample(lent, x);
-    answer.meter
-}
-
-// The stream's name, factor and length.
-fn heading(out: Stdout, name: &[u8], m: u64, length: usize) {
-    text(out, b"stream ");
-    text(out, name);
-    text(out, b" m ");
-    number(out, m);
-    text(out, b" N ");
-    number(out, length as u64);
-}
-
-// A sum's answer as a part.
-fn part_of(answer: SumAnswer) -> Part {
-    let sum = answer.sum;
-    Part {
-        number: answer.number,
-        sum,
-        count: answer.count,
-    }
+// The meter after a sample out of range and one in it.
+fn with_refused(meter: Meter, ring: &mut [i64; 32766], x: i64) -> Result<Meter, Refused> {
+    let same = meter.with_sample(ring, 1099511627777).unwrap_or(meter);
+    same.with_sample(ring, x)
 }

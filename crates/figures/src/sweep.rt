@@ -1,112 +1,76 @@
 // Sums, fractions and deviations of long records at many factors and lengths.
-use crate::print::{halves, number, refusal, sum, text};
+use crate::print::{Fraction, Told};
 use crate::records;
+use record::Refused;
+use shown::Sum;
 use std::io::Stdout;
-use sums::SumAnswer;
-use variances::{DeviationAnswer, FractionAnswer};
-
-pub(crate) fn figures(out: Stdout) {
-    of_rule(out, b"ends", records::ENDS);
-    of_rule(out, b"blocks", records::BLOCKS);
-    of_rule(out, b"squares", records::SQUARES);
-    of_rule(out, b"scattered", records::SCATTERED);
-    of_rule(out, b"line", records::LINE);
-}
-
-// The lines of one record.
-fn of_rule(out: Stdout, name: &[u8], rule: u8) {
-    let mut samples = [0i64; 32768];
-    records::fill(&mut samples, rule);
-    all_factors(out, name, &samples);
-}
+use std::{fmt, io};
+use variances::{deviations, fractions};
 
 // The factors, from the smallest to the largest.
-fn all_factors(out: Stdout, name: &[u8], whole: &[i64; 32768]) {
-    let samples: &[i64] = whole;
-    all_lengths(out, name, samples, 1);
-    all_lengths(out, name, samples, 2);
-    all_lengths(out, name, samples, 3);
-    all_lengths(out, name, samples, 7);
-    all_lengths(out, name, samples, 100);
-    all_lengths(out, name, samples, 5000);
-    all_lengths(out, name, samples, 10922);
+const FACTORS: [u16; 7] = [1, 2, 3, 7, 100, 5000, 10922];
+
+// A sum, its count, its variance and its deviation.
+#[derive(Clone, Copy)]
+struct Whole(Sum, Fraction, u64);
+
+impl fmt::Display for Whole {
+    fn fmt<W: fmt::Write>(&self, f: &mut fmt::Formatter<W>) -> fmt::Result {
+        write!(f, "{}, {}, {}", self.0, self.1, self.2)
+    }
+}
+
+// The lines of each record at each factor.
+pub(crate) fn figures(out: Stdout) -> io::Result<()> {
+    let mut samples = [0i64; 32768];
+    for (name, rule) in records::RULES {
+        records::fill(&mut samples, rule);
+        for m in FACTORS {
+            all_lengths(out, name, &samples, m)?;
+        }
+    }
+    Ok(())
 }
 
 // The lengths at which a sum becomes due, and the longest.
-fn all_lengths(out: Stdout, name: &[u8], samples: &[i64], m: u16) {
+fn all_lengths(out: Stdout, name: &str, samples: &[i64], m: u16) -> io::Result<()> {
     let factor = m as usize;
-    if factor < 1 {
-        return;
+    for length in [
+        2 * factor,
+        2 * factor + 1,
+        (3 * factor).saturating_sub(1),
+        3 * factor,
+        32768,
+    ] {
+        if let Some(first) = samples.get(..length) {
+            one_length(out, name, first, m as u64)?;
+        }
     }
-    one_length(out, name, samples, m, 2 * factor);
-    one_length(out, name, samples, m, 2 * factor + 1);
-    one_length(out, name, samples, m, 3 * factor - 1);
-    one_length(out, name, samples, m, 3 * factor);
-    one_length(out, name, samples, m, 32768);
+    Ok(())
 }
 
 // One record's lines: its Allan figures and its modified ones.
-fn one_length(out: Stdout, name: &[u8], samples: &[i64], m: u16, length: usize) {
-    if samples.len() < length {
-        return;
-    }
-    let part = &samples[..length];
-    heading(out, name, m, length);
-    allan(out, sums::allan_sum(part, m as u64), m as u64);
-    heading(out, name, m, length);
-    modified(out, sums::modified_sum(part, m as u64), m as u64);
-}
-
-// The record's name, factor and length.
-fn heading(out: Stdout, name: &[u8], m: u16, length: usize) {
-    text(out, name);
-    text(out, b" m ");
-    number(out, m as u64);
-    text(out, b" N ");
-    number(out, length as u64);
+fn one_length(out: Stdout, name: &str, samples: &[i64], m: u64) -> io::Result<()> {
+    let length = samples.len();
+    println!(out; "{name} m {m} N {length} Allan {}", Told(allan(samples, m)))?;
+    println!(out;
+        "{name} m {m} N {length} modified {}",
+        Told(modified(samples, m))
+    )
 }
 
 // The Allan sum, its count, its variance and deviation.
-fn allan(out: Stdout, answer: SumAnswer, m: u64) {
-    text(out, b" Allan ");
-    let by = answer.number;
-    if by != 0 {
-        refusal(out, by, answer.place);
-        text(out, b"\n");
-        return;
-    }
-    let total = answer.sum;
-    sum(out, total, answer.count);
-    fraction(out, variances::allan_fraction(total, m, answer.count));
-    deviation(out, variances::allan_deviation(total, m, answer.count));
+fn allan(samples: &[i64], m: u64) -> Result<Whole, Refused> {
+    let sum = sums::allan(samples, m)?;
+    let variance = fractions::allan_variance(sum, m)?;
+    let root = deviations::allan_root(sum, m)?;
+    Ok(Whole(Sum(sum), Fraction(variance), root))
 }
 
 // The modified sum, its count, the time variance and its deviation.
-fn modified(out: Stdout, answer: SumAnswer, m: u64) {
-    text(out, b" modified ");
-    let by = answer.number;
-    if by != 0 {
-        refusal(out, by, answer.place);
-        text(out, b"\n");
-        return;
-    }
-    let total = answer.sum;
-    sum(out, total, answer.count);
-    fraction(out, variances::time_fraction(total, m, answer.count));
-    deviation(out, variances::time_deviation(total, m, answer.count));
-}
-
-// A fraction, its numerator in halves.
-fn fraction(out: Stdout, answer: FractionAnswer) {
-    text(out, b", ");
-    halves(out, answer.numerator);
-    text(out, b"/");
-    number(out, answer.denominator);
-}
-
-// A deviation, at the line's end.
-fn deviation(out: Stdout, answer: DeviationAnswer) {
-    text(out, b", ");
-    number(out, answer.deviation);
-    text(out, b"\n");
+fn modified(samples: &[i64], m: u64) -> Result<Whole, Refused> {
+    let sum = sums::modified(samples, m)?;
+    let variance = fractions::time_variance(sum, m)?;
+    let root = deviations::time_root(sum, m)?;
+    Ok(Whole(Sum(sum), Fraction(variance), root))
 }

@@ -1,8 +1,10 @@
 // Sixteen channels of a bank fed in turn, each at a factor of its own, with a gap on every other one.
-use crate::print::{number, part, refusal, text};
 use crate::records;
 use channels::{Bank, CHANNELS};
-use meter::{Meter, Report};
+use meter::{Meter, Sums};
+use record::Refused;
+use shown::{OnePart, Refusal};
+use std::io;
 use std::io::Stdout;
 use wide::Wide;
 
@@ -11,17 +13,20 @@ const RING: usize = 768;
 // How many turns there are.
 const TURNS: usize = 200;
 
-pub(crate) fn figures(out: Stdout) {
+// A line for each channel, and for one above them.
+pub(crate) fn figures(out: Stdout) -> io::Result<()> {
     let mut samples = [0i64; 32768];
     records::scattered(&mut samples);
     let mut ring = [0i64; RING];
     let bank = fed(started(&ring), &samples, &mut ring);
-    reported(out, bank);
+    for c in 0..=CHANNELS as u64 {
+        of_channel(out, c, bank.sums(c))?;
+    }
+    Ok(())
 }
 
 // A bank of which every channel is started, channel c at factor c + 1; channel 16 is refused.
 fn started(ring: &[i64; RING]) -> Bank {
-    let lent: &[i64] = ring;
     let nothing = Meter {
         m: 0,
         n: 0,
@@ -35,9 +40,8 @@ fn started(ring: &[i64; RING]) -> Bank {
     let mut now = Bank {
         meters: [nothing; 16],
     };
-    for c in 0..CHANNELS as u64 + 1 {
-        let answer = now.start(c, c + 1, lent);
-        now = answer.bank;
+    for c in 0..=CHANNELS as u64 {
+        now = now.with_fresh(c, c + 1, ring).unwrap_or(now);
     }
     now
 }
@@ -45,8 +49,8 @@ fn started(ring: &[i64; RING]) -> Bank {
 // The bank after all turns.
 fn fed(bank: Bank, samples: &[i64; 32768], ring: &mut [i64; RING]) -> Bank {
     let mut now = bank;
-    for i in 0..TURNS {
-        now = turned(now, samples[i], i as u64, ring);
+    for (turn, x) in samples.iter().take(TURNS).enumerate() {
+        now = turned(now, *x, turn as u64, ring);
     }
     now
 }
@@ -62,37 +66,22 @@ fn turned(bank: Bank, x: i64, turn: u64, ring: &mut [i64; RING]) -> Bank {
 
 // The bank with one sample more on a channel; on an odd channel there is a gap before every fiftieth.
 fn stepped(bank: Bank, c: u64, x: i64, turn: u64, ring: &mut [i64; RING]) -> Bank {
-    let lent: &mut [i64] = ring;
-    if c % 2 == 1 {
-        if turn % 50 == 0 {
-            let apart = bank.gap(c);
-            let answer = apart.bank.sample(c, lent, x);
-            return answer.bank;
-        }
-    }
-    let answer = bank.sample(c, lent, x);
-    answer.bank
-}
-
-// A line for each channel, and for one above them.
-fn reported(out: Stdout, bank: Bank) {
-    for c in 0..CHANNELS as u64 + 1 {
-        of_channel(out, c, bank.report(c));
-    }
+    let before = if c % 2 == 1 && turn % 50 == 0 {
+        bank.after_gap(c).unwrap_or(bank)
+    } else {
+        bank
+    };
+    before.with_sample(c, ring, x).unwrap_or(before)
 }
 
 // One line: a channel's sums.
-fn of_channel(out: Stdout, c: u64, report: Report) {
-    text(out, b"channel ");
-    number(out, c);
-    if report.number != 0 {
-        text(out, b": ");
-        refusal(out, report.number, report.place);
-        text(out, b"\n");
-        return;
+fn of_channel(out: Stdout, c: u64, sums: Result<Sums, Refused>) -> io::Result<()> {
+    match sums {
+        Ok(sums) => println!(out;
+            "channel {c}:{}{}",
+            OnePart::from(sums.allan),
+            OnePart::from(sums.modified)
+        ),
+        Err(refused) => println!(out; "channel {c}: {}", Refusal(refused)),
     }
-    text(out, b":");
-    part(out, report.allan);
-    part(out, report.modified);
-    text(out, b"\n");
 }

@@ -3,12 +3,19 @@
 #![tactic(auto)]
 
 mod bank;
-mod print;
 mod quieter;
 mod records;
 
+use std::io;
+use std::io::Stdout;
+
+// A write that fails ends the lines and is not told.
 fn main(rt: HostRuntime) {
-    let out = rt.stdout();
-    quieter::figures(out);
-    bank::figures(out);
+    let _ = figures(rt.stdout());
+}
+
+// All lines.
+fn figures(out: Stdout) -> io::Result<()> {
+    quieter::figures(out)?;
+    bank::figures(out)
 }

@@ -6,11 +6,12 @@ use mathlib.Core.List.{List}
 use Prim.Native.Nat.{ℕ, zero, suc, ◌+◌, ◌-◌, ◌^◌, ◌≤◌, ◌<◌}
 use native.Mathlib.Numerals.{add-one}
 use native.Mathlib.Omega.{arith}
-use borrow.Author.Tests.{ltb-false, not-false, lt-leb, lt-ltb, le-ltb, eq-eqb, ne_eqb}
-use lib.Dec.{ltb}
+use borrow.Author.Tests.{ltb-false, not-false, lt-leb, lt-ltb, le-ltb, eq-eqb, ne_eqb, eqb-false}
+use lib.Dec.{ltb, eqb}
 use lib.IntN.{ℤ, pos, negsuc, nat_abs, ◌+ℤ◌, ◌-ℤ◌, +ℤ_idr, +ℤ_assoc}
-use lib.ListN.{length, drop, set, length-drop, length-set}
+use lib.ListN.{length, take, drop, set, length-drop, length-set}
 use lib.Seq.{get_or-drop}
+use Rattle.std.proofs.Common.{get_or-take, drop-drop}
 use lib.Signed.{mag, lt_z}
 use mir.Syntax.{w64}
 use mir.Val.{of_z, to_z, SFits}
@@ -20,14 +21,14 @@ use Rattle.laws.proofs.ListLaws.{tabulate_length, tabulate_entry, search_goes_on
 use Rattle.laws.proofs.SumLaws.{sum_ℤ_zero, sum_ℤ_step}
 use Rattle.laws.proofs.Parts.{one_part, +ℤ_parts, size_is, small_fits}
 use Rattle.laws.proofs.Expressions.{Expression, $◌, ±◌, ◌∋◌, ◌⊕◌, ◌⊖◌}
-use Rattle.laws.proofs.Machine.{Fit, machine, result, machine_is, result_is, operation_fits, argument, LeavesFit, argument_is, lt_taken, lt_left}
+use Rattle.laws.proofs.Machine.{Fit, machine, result, machine_is, result_is, operation_fits, argument, LeavesFit, argument_is, lt_taken}
 use Rattle.record.specs.Refusals.{none, refused, refused_if, ◌then◌, in_range, range_refusal}
 use Rattle.record.specs.declared.Refusal.{Refusal}
 use Rattle.frequency.specs.Frequency.{phases_from, first_leaving, phase_refusal, phase_refusal_from, differences, frequency_refusal}
 use Rattle.record.proofs.RangeLaws.{sample_bounded}
-use Rattle.record.proofs.RefusalLaws.{first_refuses_nothing, rest_refuses_nothing, test_fails, range_bounded}
+use Rattle.record.proofs.RefusalLaws.{first_refuses_nothing, rest_refuses_nothing, test_fails, range_bounded, unrefused_range_none}
 
--- ---- one reading more, tested against the ends -(low + 1) and high
+-- ---- one reading more, beyond the ends -(low + 1) and high
 
 module _ (x y : ℤ) (in_range_lem : nat_abs x ≤ 2 ^ 40) (fits : SFits w64 y) where
   -- a reading beyond 2^41 takes any phase out of its range
@@ -41,12 +42,6 @@ module _ (x y : ℤ) (in_range_lem : nat_abs x ≤ 2 ^ 40) (fits : SFits w64 y) 
 
   pub above_leaves : (high : ℕ) → 2 ^ 41 ≤ high → high < 2 ^ 63 → lt_z (pos high) (machine w64 ($ y)) ≡ true → in_range (x +ℤ y) ≡ false
   above_leaves high far fit t = beyond_leaves (omega (arith, size_is y, lt_taken w64 (± pos high) ($ y) (omega arith) fits t))
-
-  -- any other is added in a word
-  pub between_fits : (low high : ℕ) → low < 2 ^ 62 → high < 2 ^ 62 → lt_z (machine w64 ($ y)) (negsuc low) ≡ false →
-      lt_z (pos high) (machine w64 ($ y)) ≡ false → Fit w64 ($ x ⊕ $ y)
-  between_fits low high fit fit' t u =
-      omega (arith, size_is x, lt_left w64 ($ y) (± negsuc low) fits (omega arith) t, lt_left w64 (± pos high) ($ y) (omega arith) fits u)
 
 -- ---- the running phase
 
@@ -121,10 +116,6 @@ none_left_yet start ys in_range_lem = record {
 }
 
 module _ {start : ℤ} {ys : List ℤ} {s i : ℕ} (so_far : NoneLeft start ys s i) where
-  pub phase_so_far : nat_abs (to_z w64 s) ≤ 2 ^ 40
-  phase_so_far =
-      rw (machine_is w64 (s ∋ running start ys i) (so_far.phase, small_fits (running start ys i) (omega arith))) so_far.in_range_lem
-
   -- what the test of a loaded reading tells
   pub reading_tells : mag (at ys i) < 2 ^ 63 → {answer b : Bool} → answer ≡ in_range (argument w64 (grown start ys i s)) → answer ≡ b →
       in_range (running start ys (i + 1)) ≡ b
@@ -242,6 +233,46 @@ module _ (xs : List ℤ) where
   pub all_differences_written : (before : List ℤ) (i : ℕ) → i ≡ length xs - 1 → written_so_far i (differences xs) before ≡ written (differences xs) before
   all_differences_written before i whole = written_whole (differences xs) before i (omega (arith, differences_length))
 
+-- what the loop knows with i differences written at the front of the buffer, of a window's size and of the samples that are left
+pub record DifferencesWritten (xs before now rest : List ℤ) (size i : ℕ) : Type 0 where
+  pub within : i ≤ length xs - 1
+  pub two : size ≡ 2
+  pub end : rest ≡ drop i xs
+  pub same_length : length now ≡ length before
+  pub front : now ≡ written_so_far i (differences xs) before
+
+module _ {xs before now rest : List ℤ} {size i : ℕ} (so_far : DifferencesWritten xs before now rest size i) where
+  left_over : length rest ≡ length xs - i
+  left_over = ap length so_far.end ∙ length-drop i xs
+
+  -- the turn's window
+  module _ (unrefused : range_refusal xs ≡ none) {window : List ℤ} (whole : size ≤ length rest) (window-is : window ≡ take size rest) where
+    window_entry : (k : ℕ) → k < 2 → at window k ≡ at xs (i + k)
+    window_entry k h =
+        let below : k < size = omega (arith, so_far.two) in
+        ap (λ (w : List ℤ). at w k) window-is ∙ get_or-take size rest k (pos 0) below ∙ ap (λ (w : List ℤ). at w k) so_far.end ∙ get_or-drop i xs k (pos 0)
+
+    window_first : at window 0 ≡ at xs i
+    window_first = window_entry 0 (omega arith) ∙ ap (at xs) (let same : i + 0 ≡ i = omega arith in same)
+
+    pub window_fits : (k j : ℕ) → k < 2 → j < 2 → Fit w64 (difference_of window k j)
+    window_fits k j k-below j-below = rw (window_entry k k-below, window_entry j j-below) (difference_fits xs unrefused (i + k) (i + j))
+
+    pub one_difference_more : length xs ≤ length before + 1 → {rest' : List ℤ} {size' i' j : ℕ} → size' ≡ size → rest' ≡ drop 1 rest → j ≡ i → i' ≡ i + 1 →
+        DifferencesWritten xs before (set now j (machine w64 (difference_of window 1 0))) rest' size' i'
+    one_difference_more room size-is rest-is j-is i-is =
+        let inside : i + 1 < length xs = omega (arith, left_over, so_far.two) in
+        rw (j-is, i-is) (record {
+          within = omega arith;
+          two = size-is ∙ so_far.two;
+          end = rest-is ∙ ap (drop 1) so_far.end ∙ drop-drop 1 i xs;
+          same_length = length-set now i _ ∙ so_far.same_length;
+          front = rw (window_entry 1 (omega arith), window_first) (difference_stored xs unrefused before i inside (omega arith) so_far.front);
+        })
+
+  pub differences_written : length rest < size → now ≡ written (differences xs) before
+  differences_written short = so_far.front ∙ all_differences_written xs before i (omega (arith, left_over, so_far.two, so_far.within))
+
 -- ---- 2, 6, 3 of the start, 3 of a reading: the refusal of phase from a start, with a buffer of so many entries
 
 module _ (start : ℤ) (ys : List ℤ) (room : ℕ) where
@@ -290,6 +321,16 @@ unrefused_stays start ys room nothing =
       stay = no_reading_leaves start ys (ltb-false _ (length ys) (test_fails _ 3 _ (omega arith) (rest_refuses_nothing outside leaves phases)));
     }
 
+pub phases_have_room : (start : ℤ) (ys : List ℤ) (room : ℕ) → phase_refusal_from start ys room ≡ none → length ys < room
+unfolding phase_refusal_from
+phases_have_room start ys room nothing =
+    let many = refused_if (ltb 32767 (length ys)) 2 0 in
+    let no_room = refused_if (ltb room (length ys + 1)) 6 0 in
+    let rest = refused_if (not (in_range start)) 3 0 then refused_if (ltb (first_leaving start ys) (length ys)) 3 (first_leaving start ys) in
+    let all = ap (λ (r : Refusal). r.number) nothing in
+    let enough : length ys + 1 ≤ room = ltb-false room (length ys + 1) (test_fails _ 6 0 (omega arith) (first_refuses_nothing no_room rest (rest_refuses_nothing many (no_room then rest) all))) in
+    omega arith
+
 -- 0 is in range: from there phases are refused as phase from frequency is
 pub refusal_from_nought : (ys : List ℤ) (room : ℕ) → phase_refusal_from (pos 0) ys room ≡ phase_refusal ys room
 unfolding phase_refusal_from phase_refusal in_range
@@ -315,3 +356,22 @@ module _ (xs : List ℤ) (room : ℕ) where
       pub range_decides : length xs - 1 ≤ room → frequency_refusal xs room ≡ range_refusal xs
       unfolding frequency_refusal
       range_decides h = simp (le-ltb 32768 (length xs) few, ne_eqb (length xs) 0 some, le-ltb room (length xs - 1) h)
+
+-- what is known where nothing is refused
+pub record Differing (xs : List ℤ) (room : ℕ) : Type 0 where
+  pub some : 1 ≤ length xs
+  pub room_enough : length xs ≤ room + 1
+  pub in_range_lem : range_refusal xs ≡ none
+
+pub unrefused_differs : (xs : List ℤ) (room : ℕ) → frequency_refusal xs room ≡ none → Differing xs room
+unfolding frequency_refusal
+unrefused_differs xs room nothing =
+    let many = refused_if (ltb 32768 (length xs)) 2 0 in
+    let no_sample = refused_if (eqb (length xs) 0) 1 0 in
+    let no_room = refused_if (ltb room (length xs - 1)) 6 0 in
+    let range = range_refusal xs in
+    let first = rest_refuses_nothing many (no_sample then no_room then range) (ap (λ (r : Refusal). r.number) nothing) in
+    let second = rest_refuses_nothing no_sample (no_room then range) first in
+    let empty = eqb-false (length xs) 0 (test_fails _ 1 0 (omega arith) (first_refuses_nothing no_sample (no_room then range) first)) in
+    let enough : length xs - 1 ≤ room = ltb-false room (length xs - 1) (test_fails _ 6 0 (omega arith) (first_refuses_nothing no_room range second)) in
+    record { some = omega arith; room_enough = omega arith; in_range_lem = unrefused_range_none xs (rest_refuses_nothing no_room range second) }

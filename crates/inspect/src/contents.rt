@@ -1,9 +1,11 @@
-// What a record file holds, as one line to standard output. Every figure is the library's, and every answer is tested before it is passed on.
-use crate::line::{ROOM, byte, millionths, number, signed, text, whole, written};
-use crate::words::{refused, refused_at};
-use crate::{errors, trouble};
-use sums::SumAnswer;
-use variances::DeviationAnswer;
+// What a record file holds, as one line to standard output. Every figure is the library's.
+use crate::figures::{Count, Refusal, Sum, Told};
+use crate::{line, trouble};
+use phr::{Contents, Kind};
+use record::Refused;
+use std::io;
+use std::io::Write;
+use variances::deviations;
 
 // The most values of a file.
 const MOST: usize = 32768;
@@ -14,146 +16,86 @@ const LONG: u64 = 2;
 
 // The line of a file.
 pub(crate) fn show(rt: &HostRuntime, path: &[u8], bytes: &[u8]) {
-    let mut line = [0u8; ROOM];
-    let at = text(&mut line, 0, path);
-    let at = text(&mut line, at, b": ");
-    let at = contents(&mut line, at, bytes);
-    let at = byte(&mut line, at, b'\n');
-    if let Err(error) = written(&rt.stdout(), &line, at) {
-        trouble::file(
-            rt,
-            b"standard output",
-            b": cannot be written: ",
-            errors::code(error),
-        );
+    if let Err(error) = written(rt, path, bytes) {
+        trouble::file(rt, b"standard output", "written", error);
     }
 }
 
-// The version, the kind, the count and the figures, or the refusal.
-fn contents(line: &mut [u8; ROOM], at: usize, bytes: &[u8]) -> usize {
+// The line, in one call.
+fn written(rt: &HostRuntime, path: &[u8], bytes: &[u8]) -> io::Result<()> {
+    let mut line = line::begun(rt.alloc(), b"", path)?;
+    line.extend_from_slice(b": ")?;
+    contents(&mut line, bytes)?;
+    line.push(b'\n')?;
+    rt.stdout().write_all(&line)
+}
+
+// What the file says and the figures of its values, or the refusal.
+fn contents(line: &mut Vec<u8>, bytes: &[u8]) -> io::Result<()> {
     let mut values = [0i64; MOST];
-    let answer = phr::read_record(bytes, &mut values);
-    let by = answer.number;
-    if by != 0 {
-        return refused_at(line, at, by, answer.place);
+    match phr::read_either(bytes, &mut values) {
+        Ok(said) => held(line, said, front(&values, said.count)),
+        Err(refused) => write!(line, "{}", Refusal(refused)),
     }
-    let at = text(line, at, b"version ");
-    let at = number(line, at, answer.version);
-    let count = answer.count;
-    if answer.kind == 0 {
-        let at = text(line, at, b", phase");
-        let at = counted(line, at, count);
-        return phase(line, at, &values, count as usize);
-    }
-    let at = text(line, at, b", frequency");
-    let at = begun(line, at, answer.version, answer.start);
-    let at = counted(line, at, count);
-    readings(line, at, answer.start, &values, count as usize)
 }
 
-// Where the phases of a frequency record begin, if the file says it.
-fn begun(line: &mut [u8; ROOM], at: usize, version: u64, start: i64) -> usize {
-    if version == 1 {
-        return at;
-    }
-    let at = text(line, at, b" from ");
-    signed(line, at, start)
+// The front of an array. The count is never beyond it; that is tested, not assumed.
+fn front(values: &[i64; MOST], count: u64) -> &[i64] {
+    values.get(..count as usize).unwrap_or(&[])
 }
 
-// The count.
-fn counted(line: &mut [u8; ROOM], at: usize, count: u64) -> usize {
-    let at = text(line, at, b", ");
-    let at = number(line, at, count);
-    if count == 1 {
-        return text(line, at, b" value");
+// The version, the kind, the count and the figures of a file that says this and has these values.
+fn held(line: &mut Vec<u8>, said: Contents, values: &[i64]) -> io::Result<()> {
+    let version = said.version;
+    let start = said.start;
+    let count = Count(said.count);
+    match (said.kind, version) {
+        (Kind::Phase, _) => {
+            write!(line, "version {version}, phase, {count}")?;
+            phase(line, values)
+        }
+        (Kind::Frequency, 1) => {
+            write!(line, "version 1, frequency, {count}")?;
+            readings(line, start, values)
+        }
+        (Kind::Frequency, _) => {
+            write!(line, "version {version}, frequency from {start}, {count}")?;
+            readings(line, start, values)
+        }
     }
-    text(line, at, b" values")
 }
 
-// The figures of the phases of the first readings, from a start on. The count is never beyond the array; that is tested, not assumed.
-fn readings(
-    line: &mut [u8; ROOM],
-    at: usize,
-    start: i64,
-    values: &[i64; MOST],
-    count: usize,
-) -> usize {
-    let all: &[i64] = values;
+// The figures of the phases of these readings, from a start on.
+fn readings(line: &mut Vec<u8>, start: i64, readings: &[i64]) -> io::Result<()> {
     let mut phases = [0i64; MOST];
-    if all.len() < count {
-        return at;
+    match frequency::phases(start, readings, &mut phases) {
+        Ok(count) => phase(line, front(&phases, count)),
+        Err(refused) => write!(line, "; phases {}", Refusal(refused)),
     }
-    let answer = frequency::phase_from_start(start, &all[0..count], &mut phases);
-    let by = answer.number;
-    if by != 0 {
-        let at = text(line, at, b"; phases ");
-        return refused_at(line, at, by, answer.place);
-    }
-    phase(line, at, &phases, answer.count as usize)
 }
 
-// The figures of the first samples.
-fn phase(line: &mut [u8; ROOM], at: usize, values: &[i64; MOST], count: usize) -> usize {
-    let all: &[i64] = values;
-    if all.len() < count {
-        return at;
-    }
-    let at = allan(line, at, sums::allan_sum(&all[0..count], SHORT));
-    modified(line, at, sums::modified_sum(&all[0..count], LONG))
+// The figures of these samples.
+fn phase(line: &mut Vec<u8>, samples: &[i64]) -> io::Result<()> {
+    write!(line, "; factor 1: Allan {}", Told(allan(samples)))?;
+    write!(line, "; factor 2: modified {}", Told(modified(samples)))
 }
 
-// The Allan sum and its deviation, or its refusal.
-fn allan(line: &mut [u8; ROOM], at: usize, answer: SumAnswer) -> usize {
-    let at = text(line, at, b"; factor 1: Allan ");
-    let by = answer.number;
-    if by != 0 {
-        return refused_at(line, at, by, answer.place);
-    }
-    let at = sum(line, at, answer);
-    let at = text(line, at, b", deviation ");
-    let total = answer.sum;
-    deviation(
-        line,
-        at,
-        variances::allan_deviation(total, SHORT, answer.count),
-    )
+// The Allan sum and its deviation.
+fn allan(samples: &[i64]) -> Result<Sum, Refused> {
+    let sum = sums::allan(samples, SHORT)?;
+    Ok(Sum {
+        sum,
+        name: "deviation",
+        root: deviations::allan_root(sum, SHORT),
+    })
 }
 
-// The modified sum and the time deviation, or its refusal.
-fn modified(line: &mut [u8; ROOM], at: usize, answer: SumAnswer) -> usize {
-    let at = text(line, at, b"; factor 2: modified ");
-    let by = answer.number;
-    if by != 0 {
-        return refused_at(line, at, by, answer.place);
-    }
-    let at = sum(line, at, answer);
-    let at = text(line, at, b", time deviation ");
-    let total = answer.sum;
-    deviation(
-        line,
-        at,
-        variances::time_deviation(total, LONG, answer.count),
-    )
-}
-
-// A sum with its count.
-fn sum(line: &mut [u8; ROOM], at: usize, answer: SumAnswer) -> usize {
-    let at = text(line, at, b"sum ");
-    let total = answer.sum;
-    let at = whole(line, at, total, 1);
-    let at = text(line, at, b" of ");
-    number(line, at, answer.count)
-}
-
-// A deviation in units of 2^-20 ps and in ps, or its refusal, whose place means nothing.
-fn deviation(line: &mut [u8; ROOM], at: usize, answer: DeviationAnswer) -> usize {
-    let by = answer.number;
-    if by != 0 {
-        return refused(line, at, by);
-    }
-    let units = answer.deviation;
-    let at = number(line, at, units);
-    let at = text(line, at, b" (");
-    let at = millionths(line, at, units);
-    text(line, at, b" ps)")
+// The modified sum and the time deviation.
+fn modified(samples: &[i64]) -> Result<Sum, Refused> {
+    let sum = sums::modified(samples, LONG)?;
+    Ok(Sum {
+        sum,
+        name: "time deviation",
+        root: deviations::time_root(sum, LONG),
+    })
 }

@@ -1,10 +1,5 @@
 // What the program says of itself.
 
-// Whether a word asks for help.
-pub(crate) fn asked(word: &[u8]) -> bool {
-    matches!(word, b"-h" | b"--help")
-}
-
 // To standard error, where no file is named.
 pub(crate) fn usage(rt: &HostRuntime) {
     let _ = rt

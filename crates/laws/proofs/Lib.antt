@@ -1,6 +1,5 @@
 pub mod Tests
 pub mod ListLaws
-pub mod AppendLaws
 pub mod GreatestLaws
 pub mod Halves
 pub mod Parts

@@ -2,20 +2,19 @@
 use mathlib.Core.Path.{◌≡◌, refl, sym, ap, ◌∙◌}
 use mathlib.Core.Bool.{Bool, true, false, cond}
 use mathlib.Core.List.{List, [], ◌∷◌, ◌++◌, append_assoc, append-nil}
-use Prim.Native.Nat.{ℕ, suc, ◌+◌, ◌-◌, ◌*◌, ◌≤◌, ◌<◌}
+use Prim.Native.Nat.{ℕ, suc, ◌+◌, ◌-◌, ◌*◌, ◌%◌, ◌^◌, ◌≤◌, ◌<◌}
 use native.Mathlib.Omega.{arith}
 use borrow.Author.Tests.{le-leb, lt-leb}
 use lib.Dec.{eqb}
 use lib.IntN.{ℤ}
-use lib.ListN.{length, take}
-use lib.Seq.{length-take-le}
-use Rattle.laws.proofs.AppendLaws.{Appended}
+use lib.ListN.{length}
 use Rattle.record.specs.Refusals.{record_refusal}
 use Rattle.record.specs.declared.Refusal.{Refusal}
 use Rattle.sums.specs.Published.{allan_sum, allan_count, modified_sum, modified_count}
 use Rattle.sums.specs.Answers.{allan_demand, modified_demand, sum_answer, allan_sum_answer, modified_sum_answer}
 use Rattle.sums.specs.declared.SumAnswer.{SumAnswer}
 use Rattle.wide.specs.Wide.{halves}
+use Rattle.wide.proofs.Roots.{bit_of_word}
 use Rattle.listing.specs.Columns.{factor_line}
 use Rattle.listing.specs.Sheet.{factors_from, factors, lines_of, allan_counts, modified_counts}
 
@@ -27,6 +26,10 @@ module _ (more m n : ℕ) where
   pub factor_not_due : n ≤ 2 * m → factors_from (suc more) m n ≡ []
   unfolding factors_from
   factor_not_due h = rw (lt-leb (2 * m + 1) n (omega arith))
+
+-- a factor as the loop makes it
+pub factor_word : (i : ℕ) → i < 11 → 1 * 2 ^ i % 2 ^ 64 ≡ 2 ^ i
+factor_word i few = bit_of_word 64 i (omega arith)
 
 -- ---- counts are not above the number of samples, and one
 
@@ -59,19 +62,19 @@ module _ (xs : List ℤ) (k₀ c₀ : ℕ) where
   abbrev left : ℕ → ℕ → List ℕ
   left i m = factors_from (11 - i) m (length xs)
 
-  pub record Done (text : List ℕ) (at k c m i : ℕ) : Type 0 where
+  pub record Done (text : List ℕ) (k c m i : ℕ) : Type 0 where
     pub within : i ≤ 11
     pub factor : m ≤ 4096
-    pub room : at ≤ 405 * i
+    pub room : length text ≤ 405 * i
     pub k_within : k ≤ k₀ + 4097 * i
     pub c_within : c ≤ c₀ + 4097 * i
-    pub lines : take at text ++ lines_of xs (left i m) ≡ lines_of xs (factors (length xs))
+    pub lines : text ++ lines_of xs (left i m) ≡ lines_of xs (factors (length xs))
     pub ks : k + allan_counts xs (left i m) ≡ k₀ + allan_counts xs (factors (length xs))
     pub cs : c + modified_counts xs (left i m) ≡ c₀ + modified_counts xs (factors (length xs))
 
-  pub none_done : (text : List ℕ) → Done text 0 k₀ c₀ 1 0
+  pub none_done : Done [] k₀ c₀ 1 0
   unfolding factors
-  none_done text = record {
+  none_done = record {
     within = omega arith;
     factor = omega arith;
     room = omega arith;
@@ -82,13 +85,13 @@ module _ (xs : List ℤ) (k₀ c₀ : ℕ) where
     cs = refl;
   }
 
-  module _ {text : List ℕ} {at k c m i : ℕ} (d : Done text at k c m i) where
+  module _ {text : List ℕ} {k c m i : ℕ} (d : Done text k c m i) where
     -- one factor more
-    pub one_more_done : i < 11 → 2 * m < length xs → length xs ≤ 4096 → {after : List ℕ} {end : ℕ} →
-        Appended (factor_line xs m) text at after end → end ≤ at + 405 →
-        Done after end (k + (allan_sum_answer m xs).count) (c + (modified_sum_answer m xs).count) (2 * m) (i + 1)
+    pub one_more_done : i < 11 → 2 * m < length xs → length xs ≤ 4096 → {after : List ℕ} →
+        after ≡ text ++ factor_line xs m → length after ≤ length text + 405 →
+        Done after (k + (allan_sum_answer m xs).count) (c + (modified_sum_answer m xs).count) (2 * m) (i + 1)
     unfolding lines_of allan_counts modified_counts
-    one_more_done h due few {after} {end} line short =
+    one_more_done h due few {after} line short =
         let next : 11 - i ≡ suc (11 - (i + 1)) = omega arith in
         let first : left i m ≡ m ∷ left (i + 1) (2 * m) = rw next (factor_due (11 - (i + 1)) m (length xs) due) in
         let rest = left (i + 1) (2 * m) in
@@ -99,21 +102,19 @@ module _ (xs : List ℤ) (k₀ c₀ : ℕ) where
           k_within = omega (arith, d.k_within, allan_count_within m xs);
           c_within = omega (arith, d.c_within, modified_count_within m xs);
           lines =
-              ap (λ (t : List ℕ). t ++ lines_of xs rest) line.holds
-              ∙ append_assoc (take at text) (factor_line xs m) (lines_of xs rest)
-              ∙ ap (λ (ms : List ℕ). take at text ++ lines_of xs ms) (sym first)
+              ap (λ (t : List ℕ). t ++ lines_of xs rest) line
+              ∙ append_assoc text (factor_line xs m) (lines_of xs rest)
+              ∙ ap (λ (ms : List ℕ). text ++ lines_of xs ms) (sym first)
               ∙ d.lines;
           ks = omega (arith, d.ks, ap (allan_counts xs) first);
           cs = omega (arith, d.cs, ap (modified_counts xs) first);
         }
 
     -- no factor more is due, or all eleven are done
-    module _ (ended : left i m ≡ []) (inside : at ≤ length text) where
-      pub lines_done : (before : List ℕ) → Appended (lines_of xs (factors (length xs))) before 0 text at
+    module _ (ended : left i m ≡ []) where
+      pub lines_done : text ≡ lines_of xs (factors (length xs))
       unfolding lines_of
-      lines_done before =
-          let whole : take at text ≡ lines_of xs (factors (length xs)) = sym (append-nil (take at text)) ∙ ap (λ (ms : List ℕ). take at text ++ lines_of xs ms) (sym ended) ∙ d.lines in
-          record { ends = omega (arith, length-take-le at text inside, ap length whole); holds = whole }
+      lines_done = sym (append-nil text) ∙ ap (λ (ms : List ℕ). text ++ lines_of xs ms) (sym ended) ∙ d.lines
 
       pub ks_done : k ≡ k₀ + allan_counts xs (factors (length xs))
       unfolding allan_counts

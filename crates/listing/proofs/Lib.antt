@@ -7,3 +7,4 @@ pub mod LongerLaws
 pub mod FactorMeaning
 pub mod RoomLaws
 pub mod Unique
+pub mod AppendLaws

@@ -2,6 +2,7 @@
 use mathlib.Core.Path.{◌≡◌, refl, sym, ap, ◌∙◌}
 use mathlib.Core.Bool.{Bool, true, false, cond, not}
 use mathlib.Core.List.{List}
+use Rattle.std.proofs.Common.{Result, Ok, Err, IfOk}
 use Prim.Native.Nat.{ℕ, ◌+◌, ◌≤◌, ◌<◌}
 use native.Mathlib.Omega.{arith}
 use borrow.Author.Tests.{lt-ltb, le-ltb, ltb-true, ltb-false, eq-eqb, ne_eqb, eqb-true, eqb-false}
@@ -11,16 +12,24 @@ use lib.ListN.{length, take, drop}
 use lib.Seq.{take_at}
 use Rattle.record.specs.Answers.{count_answer, buffer_left}
 use Rattle.record.specs.Refusals.{none, refused, refused_if, ◌then◌, in_range, record_refusal}
+use Rattle.record.specs.Told.{number_of, count_told}
 use Rattle.record.specs.declared.Refusal.{Refusal}
 use Rattle.record.specs.declared.CountAnswer.{CountAnswer}
+use Rattle.record.specs.declared.grounds.Refused.{Refused}
+use Rattle.record.proofs.AnswerLaws.{error_value}
+use Rattle.record.proofs.ToldLaws.{numbered, answered_not}
 use Rattle.record.proofs.RefusalLaws.{refusal_stands, none_gives_way, first_refuses_nothing, rest_refuses_nothing, test_fails}
 use Rattle.frequency.specs.Frequency.{phases_from, first_leaving, phase_refusal_from}
 use Rattle.frequency.proofs.FrequencyLaws.{phases_from_length}
 use Rattle.sums.specs.Answers.{allan_demand}
 use Rattle.phr.specs.File.{most_values}
-use Rattle.phr.specs.Reading.{kind_of, count_of, start_of, record_values, header_refusal, counted_header_refusal, read_record_refusal, record_answer, read_record_answer}
+use Rattle.phr.specs.Reading.{kind_of, count_of, start_of, record_values, header_refusal, counted_header_refusal, read_record_refusal, record_answer, read_record_answer, header_answer}
+use Rattle.phr.specs.Kinds.{number_of_kind}
+use Rattle.phr.specs.Told.{record_told}
+use Rattle.phr.specs.declared.Contents.{Contents}
 use Rattle.phr.specs.declared.RecordAnswer.{RecordAnswer}
-use Rattle.phr.proofs.ReadCases.{record_values_length, unrefused_record}
+use Rattle.phr.proofs.AnswerCases.{header_told_refused, header_told}
+use Rattle.phr.proofs.ReadCases.{record_values_length, unrefused_record, sound_header_none, unrefused_counted_header}
 use Rattle.listing.specs.Sheet.{sheet_most, samples_of, reader_refusal, phases_refusal, sheet_refusal}
 
 -- ---- orders and answers
@@ -68,21 +77,10 @@ module _ (r : Refusal) (n : ℕ) where
       by_number true t e nought = (eqb-true r.number 0 t, ap (λ (a : CountAnswer). a.count) e)
       by_number false t e nought = absurd (eqb-false r.number 0 t (sym (ap (λ (a : CountAnswer). a.number) e) ∙ nought))
 
-  -- a refusal is answered with nought
-  answer_refused : (number place : ℕ) → 0 < number → r ≡ refused number place → {answer : CountAnswer} →
-      answer ≡ record { number = number; place = place; count = 0 } → answer ≡ count_answer r n
-  unfolding count_answer
-  answer_refused number place some e a = a ∙ rw (e, ne_eqb number 0 (λ z. omega arith))
-
-  -- and then nothing is said of the buffer
-  pub refused_whole : (number place : ℕ) → 0 < number → r ≡ refused number place → {answer : CountAnswer} → answer ≡ record { number = number; place = place; count = 0 } →
-      {Filled : Type 0} → (answer ≡ count_answer r n) × (answer.number ≡ 0 → Filled)
-  refused_whole number place some e a = (answer_refused number place some e a, λ z. absurd (omega (arith, sym (ap (λ (t : CountAnswer). t.number) a) ∙ z)))
-
--- refusals that refuse nothing are answered alike
-pub same_answer : (r s : Refusal) (n : ℕ) → r.number ≡ 0 → s.number ≡ 0 → count_answer r n ≡ count_answer s n
-unfolding count_answer
-same_answer r s n e f = rw (eq-eqb r.number 0 e, eq-eqb s.number 0 f)
+-- an error that is told of the first of two refusals
+pub error_first : (r s : Refusal) (n k : ℕ) (e : Refused) → count_told (Err e) ≡ count_answer r n → count_told (Err e) ≡ count_answer (r then s) k
+error_first r s n k e is =
+    error_value k e (sym (first_refuses r s (number_of e.why) e.place (numbered e.why) (told_refused r n is (answered_not e))))
 
 -- ---- a buffer that is filled
 
@@ -95,6 +93,12 @@ output_in_front r out buffer nought e l = rw (l, eq-eqb r.number 0 nought) (take
 -- as many samples as are counted stand at the front of a sheet's buffer
 abbrev InFront : CountAnswer → List ℤ → List ℤ → Type 0
 InFront answer left samples = answer.number ≡ 0 → (answer.count ≤ 4096) × (take answer.count left ≡ samples)
+
+-- the same of a result
+pub ok_in_front : (result : Result ℕ Refused) (left samples : List ℤ) → InFront (count_told result) left samples →
+    IfOk result (λ count. (count ≤ 4096) × (take count left ≡ samples))
+ok_in_front (Ok n) left samples f = f refl
+ok_in_front (Err e) left samples f = tt
 
 -- ---- what reading a record answers
 
@@ -226,6 +230,29 @@ module _ (bytes : List ℕ) where
 
   abbrev pub read_refusal : Refusal
   read_refusal = reader_refusal bytes then phases_refusal bytes
+
+  -- ---- the header as it is told
+
+  -- an error
+  pub header_error : (e : Refused) → record_told (Err e) ≡ header_answer bytes → refused (number_of e.why) e.place ≡ read_refusal
+  header_error e is =
+      let told = header_told_refused bytes is (answered_not e) in
+      let stands = header_stands (λ z. answered_not e (sym (ap (λ (r : Refusal). r.number) told) ∙ z)) in
+      sym (first_refuses (reader_refusal bytes) (phases_refusal bytes) (number_of e.why) e.place (numbered e.why) (stands ∙ told))
+
+  -- what it says
+  pub record HeaderTold (h : Contents) : Type 0 where
+    pub sound : (header_refusal bytes).number ≡ 0
+    pub kind : number_of_kind h.kind ≡ kind_of bytes
+    pub count : h.count ≡ count_of bytes
+
+  pub header_there : {h : Contents} → record_told (Ok h) ≡ header_answer bytes → HeaderTold h
+  header_there e =
+      let told = header_told bytes e refl in record {
+        sound = ap (λ (r : Refusal). r.number) (sound_header_none bytes (unrefused_counted_header bytes told.0).0);
+        kind = ap (λ (a : RecordAnswer). a.kind) told.1;
+        count = ap (λ (a : RecordAnswer). a.count) told.1;
+      }
 
   -- ---- what is answered where the header and the count are not refused
 

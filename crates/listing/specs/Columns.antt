@@ -16,6 +16,11 @@ line [] = []
 line (column ∷ []) = column ++ (0x0A ∷ [])
 line (column ∷ next ∷ more) = column ++ (0x20 ∷ line (next ∷ more))
 
+-- columns, each with one space after it
+abbrev pub spaced : List (List ℕ) → List ℕ
+spaced [] = []
+spaced (column ∷ more) = column ++ (0x20 ∷ spaced more)
+
 -- a number with `-`, 0x2D, before its digits where it is below nought
 unfoldable pub signed_decimal : ℤ → List ℕ
 signed_decimal (pos n) = decimal n

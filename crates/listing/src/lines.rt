@@ -1,100 +1,88 @@
-// The lines of a record and the closing line, one after the other in a buffer that is long enough for them.
-ghost use Rattle.std.specs.Prelude.{◌≡◌, ◌+◌, ◌*◌, ◌^◌, ◌≤◌, length};
-ghost use Rattle.laws.proofs.AppendLaws.{Appended};
-ghost use Rattle.record.specs.Refusals.{refused};
+// The lines of a record and the closing line, one after the other.
+ghost use Rattle.std.specs.Prelude.{◌≡◌, [], ◌++◌, ◌+◌, ◌^◌, ◌≤◌, length};
+ghost use Rattle.record.specs.Told.{number_of};
 ghost use Rattle.sums.specs.Answers.{allan_sum_answer, modified_sum_answer};
 ghost use Rattle.listing.specs.Columns.{factor_line};
 ghost use Rattle.listing.specs.Sheet.{factors, lines_of, allan_counts, modified_counts, record_text, totals_with, refused_line, total_line};
 
-use crate::columns::{SPACE, allan_columns, alpha_column, number_column, put, time_columns};
+use crate::columns::{SPACE, allan_columns, alpha_column, counted, time_columns};
+use crate::text::Text;
 use crate::{Totals, samples};
-
-// Where the text ends so far, and the totals with the lines in it.
-#[derive(Clone, Copy)]
-pub(crate) struct Lines {
-    pub at: usize,
-    pub totals: Totals,
-}
+use record::Refused;
 
 // The factors of 4,096 samples are so many: 1 to 1,024.
 const FACTORS: usize = 11;
 
-// The lines of a record file, or the line of its refusal.
-pub(crate) fn record_lines(bytes: &[u8], totals: Totals, text: &mut [u8]) -> Lines
-    requires { (length text.old ≡ 4608) × (totals.k ≤ 2 ^ 63) × (totals.c ≤ 2 ^ 63) }
-    ensures appended { (Appended (record_text bytes.now) text.old 0 text.new result.at) × (result.at ≤ 4608) }
-    ensures totals_value { result.totals ≡ totals_with totals bytes.now }
+// Writes the lines of a record file, or the line of its refusal, and gives the totals with it.
+pub(crate) fn record_lines(bytes: &[u8], totals: Totals, text: &mut Text) -> Totals
+    requires { (text.old ≡ []) × (totals.k ≤ 2 ^ 63) × (totals.c ≤ 2 ^ 63) }
+    ensures text_after { text.new ≡ record_text bytes.now }
+    ensures totals_value { result ≡ totals_with totals bytes.now }
 {
     let mut samples = [0i64; samples::MOST];
-    let answer = samples::samples_of(bytes, &mut samples);
-    let number = answer.number;
-    if number != 0 {
-        return Lines {
-            at: refused_line(number, answer.place, text),
-            totals,
-        };
-    }
-    factor_lines(&samples[..answer.count as usize], totals, text)
-}
-
-// The lines of all factors of a record.
-fn factor_lines(samples: &[i64], totals: Totals, text: &mut [u8]) -> Lines
-    requires { (length text.old ≡ 4608) × (length samples.now ≤ 4096) × (totals.k ≤ 2 ^ 63) × (totals.c ≤ 2 ^ 63) }
-    ensures appended { (Appended (lines_of samples.now (factors (length samples.now))) text.old 0 text.new result.at) × (result.at ≤ 4608) }
-    ensures totals_value { result.totals ≡ record { k = totals.k + allan_counts samples.now (factors (length samples.now)); c = totals.c + modified_counts samples.now (factors (length samples.now)) } }
-{
-    let mut lines = Lines { at: 0, totals };
-    let mut m: u64 = 1;
-    let mut i: usize = 0;
-    while i < FACTORS {
-        if samples.len() as u64 <= 2 * m {
-            return lines;
+    match samples::samples_of(bytes, &mut samples) {
+        Ok(count) => factor_lines(&samples[..count as usize], totals, text),
+        Err(refused) => {
+            refused_line(refused, text);
+            totals
         }
-        lines = factor_line(samples, m, lines, text);
-        m = 2 * m;
-        i += 1;
-    }
-    lines
-}
-
-// The line of a factor behind those before it.
-fn factor_line(samples: &[i64], m: u64, lines: Lines, text: &mut [u8]) -> Lines
-    requires { (lines.at + 405 ≤ length text.old) × (length samples.now ≤ 4096) × (lines.totals.k ≤ 2 ^ 63 + 65536) × (lines.totals.c ≤ 2 ^ 63 + 65536) }
-    ensures appended { (Appended (factor_line samples.now m) text.old lines.at text.new result.at) × (result.at ≤ lines.at + 405) }
-    ensures totals_value { result.totals ≡ record { k = lines.totals.k + (allan_sum_answer m samples.now).count; c = lines.totals.c + (modified_sum_answer m samples.now).count } }
-{
-    let before = lines.totals;
-    let allan = sums::allan_sum(samples, m);
-    let modified = sums::modified_sum(samples, m);
-    let at = allan_columns(m, allan, text, lines.at);
-    let at = time_columns(m, modified, text, at);
-    let at = alpha_column(noise::noise_of_record(samples, m), text, at);
-    Lines {
-        at,
-        totals: Totals {
-            k: before.k + allan.count,
-            c: before.c + modified.count,
-        },
     }
 }
 
-// The line of a record that is refused as a whole, and where it ends.
-fn refused_line(number: u64, place: u64, text: &mut [u8]) -> usize
-    requires { length text.old ≡ 4608 }
-    ensures { (Appended (refused_line (refused number place)) text.old 0 text.new result) × (result ≤ 4608) }
+// Writes the lines of all factors of a record, and gives the totals with them.
+fn factor_lines(samples: &[i64], mut totals: Totals, text: &mut Text) -> Totals
+    requires { (text.old ≡ []) × (length samples.now ≤ 4096) × (totals.k ≤ 2 ^ 63) × (totals.c ≤ 2 ^ 63) }
+    ensures text_after { text.new ≡ lines_of samples.now (factors (length samples.now)) }
+    ensures totals_value { result ≡ record { k = totals.k + allan_counts samples.now (factors (length samples.now)); c = totals.c + modified_counts samples.now (factors (length samples.now)) } }
 {
-    let at = put(text, 0, b"refused ");
-    let at = number_column(number, SPACE, text, at);
-    let at = put(text, at, b"at ");
-    number_column(place, b'\n', text, at)
+    for i in 0..FACTORS {
+        let m: u64 = 1 << i;
+        if samples.len() as u64 <= 2 * m {
+            return totals;
+        }
+        totals = factor_line(samples, m, totals, text);
+    }
+    totals
 }
 
-// The closing line, and where it ends.
-pub(crate) fn total_line(totals: Totals, text: &mut [u8]) -> usize
-    requires { length text.old ≡ 86 }
-    ensures { (Appended (total_line totals) text.old 0 text.new result) × (result ≤ 86) }
+// Writes the line of a factor behind those before it, and gives the totals with it.
+#[tactic(auto, using(crate::proofs::FactorLaws::allan_count_within, crate::proofs::FactorLaws::modified_count_within), unfolding(crate::specs::Columns::factor_line, crate::specs::Columns::line))]
+fn factor_line(samples: &[i64], m: u64, totals: Totals, text: &mut Text) -> Totals
+    requires { (length text.old + 405 ≤ 4608) × (length samples.now ≤ 4096) × (totals.k ≤ 2 ^ 63 + 65536) × (totals.c ≤ 2 ^ 63 + 65536) }
+    ensures text_after { text.new ≡ text.old ++ factor_line samples.now m }
+    ensures room { length text.new ≤ length text.old + 405 }
+    ensures totals_value { result ≡ record { k = totals.k + (allan_sum_answer m samples.now).count; c = totals.c + (modified_sum_answer m samples.now).count } }
 {
-    let at = put(text, 0, b"total ");
-    let at = number_column(totals.k, SPACE, text, at);
-    number_column(totals.c, b'\n', text, at)
+    let allan = sums::allan(samples, m);
+    let modified = sums::modified(samples, m);
+    allan_columns(m, allan, text);
+    time_columns(m, modified, text);
+    alpha_column(noise::of_record(samples, m), text);
+    Totals {
+        k: totals.k + counted(allan).count,
+        c: totals.c + counted(modified).count,
+    }
+}
+
+// Writes the line of a record that is refused as a whole.
+#[tactic(auto, unfolding(crate::specs::Sheet::refused_line, crate::specs::Columns::line))]
+fn refused_line(refused: Refused, text: &mut Text)
+    requires { text.old ≡ [] }
+    ensures { text.new ≡ refused_line (record { number = number_of refused.why; place = refused.place }) }
+{
+    text.put(b"refused ");
+    text.number(refused.why.into(), SPACE);
+    text.put(b"at ");
+    text.number(refused.place, b'\n');
+}
+
+// Writes the closing line.
+#[tactic(auto, unfolding(crate::specs::Sheet::total_line, crate::specs::Columns::line))]
+pub(crate) fn total_line(totals: Totals, text: &mut Text)
+    requires { text.old ≡ [] }
+    ensures { text.new ≡ total_line totals }
+{
+    text.put(b"total ");
+    text.number(totals.k, SPACE);
+    text.number(totals.c, b'\n');
 }

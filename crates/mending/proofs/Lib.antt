@@ -1,4 +1,5 @@
 pub mod KeptLaws
+pub mod KeepCases
 pub mod SalvageCases
 pub mod StoredLaws
 pub mod Salvaged

@@ -1,22 +1,21 @@
 -- The cases of salvage's refusals in their order, what is known where nothing is refused, and the two cases of the call.
-use mathlib.Core.Path.{◌≡◌, ◌∙◌}
-use mathlib.Core.Bool.{true, false, not, cond}
-use mathlib.Core.List.{List}
-use Prim.Native.Nat.{ℕ, ◌+◌, ◌-◌, ◌*◌, ◌≤◌, ◌<◌}
-use native.Mathlib.Omega.{arith}
-use borrow.Author.Tests.{lt-ltb, le-ltb, ltb-false, ne_eqb, not-false}
-use lib.Dec.{ltb}
-use lib.ListN.{length}
-use Rattle.laws.specs.Lists.{written}
-use Rattle.record.specs.Answers.{buffer_left}
+use Rattle.std.proofs.Common.{◌≡◌, ℕ, ◌-◌, ◌≤◌, true, not, ltb, List, length, ℤ, Ok, Err, sym, ap, ◌∙◌, arith, ltb-false, le-ltb, ne_eqb}
+use borrow.Author.Tests.{not-false}
 use Rattle.record.specs.Refusals.{none, refused, refused_if, ◌then◌, in_range}
+use Rattle.record.specs.Told.{number_of}
+use Rattle.record.specs.declared.Refusal.{Refusal}
+use Rattle.record.specs.declared.grounds.Refused.{Refused}
+use Rattle.record.proofs.ToldLaws.{answered_not}
 use Rattle.record.proofs.RefusalLaws.{refusal_stands, none_gives_way, first_refuses_nothing, rest_refuses_nothing, test_fails}
 use Rattle.phr.specs.File.{most_values}
-use Rattle.phr.specs.Reading.{kind_of, count_of, head_length, start_of, counted_header_refusal}
+use Rattle.phr.specs.Reading.{kind_of, count_of, head_length, start_of, counted_header_refusal, header_answer}
+use Rattle.phr.specs.Told.{record_told}
+use Rattle.phr.proofs.AnswerCases.{header_told_refused}
 use Rattle.phr.proofs.ReadCases.{SoundHeader, unrefused_counted_header}
-use Rattle.mending.specs.Salvage.{first_bad, salvaged_file, salvage_refusal, salvage_answer}
-use Rattle.mending.specs.declared.SalvageAnswer.{SalvageAnswer}
-use Rattle.mending.proofs.KeptLaws.{present_count, present_length, kept_length, salvaged_length}
+use Rattle.mending.specs.Salvage.{present_values, first_bad, kept_values, salvaged_file, salvage_refusal, salvage_answer}
+use Rattle.mending.specs.Told.{salvage_told}
+use Rattle.mending.specs.declared.Kept.{Kept}
+use Rattle.mending.proofs.KeptLaws.{salvaged_within}
 
 -- ---- 9, 2, 6, 3
 
@@ -25,20 +24,26 @@ module _ (bytes : List ℕ) (room : ℕ) where
   unfolding salvage_refusal
   header_refuses numbered = refusal_stands _ _ numbered
 
+  -- of the header, as it is told
+  pub header_error : (e : Refused) → record_told (Err e) ≡ header_answer bytes → refused (number_of e.why) e.place ≡ salvage_refusal bytes room
+  header_error e is =
+      let header = header_told_refused bytes is (answered_not e) in
+      sym header ∙ sym (header_refuses (λ nought. answered_not e (ap (λ (r : Refusal). r.number) (sym header) ∙ nought)))
+
   module _ (header : (counted_header_refusal bytes).number ≡ 0) where
     after_header : salvage_refusal bytes room ≡ (refused_if (ltb room (length (salvaged_file bytes))) 6 0 then refused_if (not (in_range (start_of bytes))) 3 0)
     unfolding salvage_refusal
     after_header = none_gives_way _ _ header
 
-    pub no_room_for_salvaged : room < length (salvaged_file bytes) → salvage_refusal bytes room ≡ refused 6 0
-    no_room_for_salvaged h = after_header ∙ rw (lt-ltb room (length (salvaged_file bytes)) h)
+    -- of the new file, by what is left over of the input, and the start
+    pub new_refusal : head_length bytes ≤ length bytes → {left : ℕ} {start : ℤ} → left ≡ length bytes - length (salvaged_file bytes) → start ≡ start_of bytes →
+        (refused_if (ltb room (length bytes - left)) 6 0 then refused_if (not (in_range start)) 3 0) ≡ salvage_refusal bytes room
+    new_refusal there {left} left_is start_is =
+        let long : length bytes - left ≡ length (salvaged_file bytes) = omega (arith, left_is, salvaged_within bytes there) in
+        rw (long, start_is) (sym after_header)
 
-    module _ (enough : length (salvaged_file bytes) ≤ room) where
-      pub start_outside : in_range (start_of bytes) ≡ false → salvage_refusal bytes room ≡ refused 3 0
-      start_outside far = after_header ∙ rw (le-ltb room (length (salvaged_file bytes)) enough, far)
-
-      pub start_inside : in_range (start_of bytes) ≡ true → salvage_refusal bytes room ≡ none
-      start_inside near = after_header ∙ rw (le-ltb room (length (salvaged_file bytes)) enough, near)
+    pub start_inside : length (salvaged_file bytes) ≤ room → in_range (start_of bytes) ≡ true → salvage_refusal bytes room ≡ none
+    start_inside enough near = after_header ∙ rw (le-ltb room (length (salvaged_file bytes)) enough, near)
 
 -- what is known where nothing is refused
 pub record Salvageable (bytes : List ℕ) (room : ℕ) : Type 0 where
@@ -63,18 +68,13 @@ unrefused_salvageable bytes room e =
 
 -- ---- the call
 
-module _ (bytes : List ℕ) (room : ℕ) (buffer : List ℕ) where
-  pub salvage_refused : {answer : SalvageAnswer} (n p : ℕ) → 0 < n → salvage_refusal bytes room ≡ refused n p →
-      answer ≡ record { number = n; place = p; old_count = 0; new_count = 0; left_over = 0; met = 0 } →
-      (answer ≡ salvage_answer bytes room) × (buffer ≡ buffer_left (salvage_refusal bytes room) (salvaged_file bytes) buffer)
-  unfolding salvage_answer buffer_left
-  salvage_refused n p h e a = let numbered = ne_eqb n 0 (λ z. omega arith) in (a ∙ rw (e, numbered), rw (e, numbered))
+module _ (bytes : List ℕ) (room : ℕ) where
+  pub salvage_error : (e : Refused) → refused (number_of e.why) e.place ≡ salvage_refusal bytes room → salvage_told (Err e) ≡ salvage_answer bytes room
+  unfolding salvage_answer
+  salvage_error e is = rw (← is, ne_eqb (number_of e.why) 0 (answered_not e))
 
-  -- the old count, how many are kept of how many present, and the header's length with the kept ones'
-  pub salvage_answered : {old kept met end : ℕ} {left : List ℕ} → salvage_refusal bytes room ≡ none → old ≡ count_of bytes → kept ≡ first_bad bytes →
-      met ≡ cond (ltb kept (present_count bytes)) 1 0 → end ≡ head_length bytes + 8 * first_bad bytes → left ≡ written (salvaged_file bytes) buffer →
-      (record { number = 0; place = 0; old_count = old; new_count = kept; left_over = length bytes - end; met = met } ≡ salvage_answer bytes room)
-      × (left ≡ buffer_left (salvage_refusal bytes room) (salvaged_file bytes) buffer)
-  unfolding salvage_answer buffer_left
-  salvage_answered e o k m n w =
-      (rw (e, o, m, n, k, salvaged_length bytes, kept_length bytes, present_length bytes), w ∙ rw e)
+  pub salvage_value : none ≡ salvage_refusal bytes room → (k : Kept) → k.old_count ≡ count_of bytes → k.new_count ≡ length (kept_values bytes) →
+      k.left_over ≡ length bytes - length (salvaged_file bytes) → k.met ≡ ltb (first_bad bytes) (length (present_values bytes)) →
+      salvage_told (Ok k) ≡ salvage_answer bytes room
+  unfolding salvage_answer
+  salvage_value is k old new left met = rw (← is, old, new, left, met)

@@ -1,1 +1,2 @@
 pub mod Salvage
+pub mod Told

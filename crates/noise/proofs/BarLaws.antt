@@ -3,7 +3,7 @@
 use mathlib.Core.Path.{◌≡◌, refl, sym, ap, subst, ◌∙◌}
 use mathlib.Core.Bool.{Bool, true, false, cond}
 use Prim.Native.Nat.{ℕ, ◌+◌, ◌*◌, ◌/◌, ◌%◌, ◌^◌, ◌≤◌, ◌<◌}
-use native.Mathlib.Nat.{div-add-mod, mul-add-div, mul-add, mul_left_comm, mul-le-mul, mul-le-mul_left, mul-le-mul_right, div-le_self, le-div_iff_mul-le, lt_of_le_of_lt}
+use native.Mathlib.Nat.{div-add-mod, mul-add-div, mul-add, mul_left_comm, mul-le-mul_left, mul-le-mul_right, div-le_self, le-div_iff_mul-le, lt_of_le_of_lt}
 use native.Mathlib.Omega.{arith}
 use borrow.Author.Tests.{eq-eqb, ne_eqb, lt-ltb, le-ltb, ltb-false, eqb-false, le-leb, leb-true}
 use lib.Dec.{T, leb, ltb, eqb, leb→le}
@@ -13,17 +13,19 @@ use Rattle.laws.specs.Greatest.{Greatest, greatest}
 use Rattle.laws.proofs.GreatestLaws.{one_greatest}
 use Rattle.laws.proofs.Halves.{product_below}
 use Rattle.laws.proofs.Tests.{choice_true, choice_false, tests_agree}
-use Rattle.wide.specs.Wide.{value, halves, division_of, square_root}
-use Rattle.wide.specs.declared.Wide.{Wide}
-use Rattle.wide.specs.declared.Division.{Division}
-use Rattle.wide.proofs.WideLaws.{value_of_halves}
-use Rattle.wide.proofs.Roots.{square_root_is_greatest}
+use Rattle.wide.specs.Wide.{square_root}
+use Rattle.wide.proofs.Roots.{square_root_is_greatest, root_is}
 use Rattle.record.specs.Refusals.{none, refused, refused_if, ◌then◌}
 use Rattle.record.specs.declared.Refusal.{Refusal}
+use Rattle.std.proofs.Common.{Err}
+use Rattle.record.specs.Told.{number_of}
+use Rattle.record.specs.declared.grounds.Refused.{Refused}
+use Rattle.record.proofs.ToldLaws.{refuses, refuses_nothing}
 use Rattle.record.proofs.RefusalLaws.{first_refuses_nothing, rest_refuses_nothing, test_fails}
 use Rattle.plot.specs.Drawn.{plus_zero}
 use Rattle.noise.specs.Noise.{kappa_of}
 use Rattle.noise.specs.Bars.{bar_width, bar_half, bars_refusal, bar_of, no_bar, bars_answer}
+use Rattle.noise.specs.Told.{bars_told}
 use Rattle.noise.specs.declared.Noise.{Noise}
 use Rattle.noise.specs.declared.Noise.TheVariants.{WhitePhase, FlickerPhase, WhiteFrequency, FlickerFrequency, RandomWalkFrequency}
 use Rattle.noise.specs.declared.bars.Bar.{Bar}
@@ -78,8 +80,8 @@ module _ (r m : ℕ) where
         not_too_many = ltb-false 32767 m (test_fails _ 2 0 (omega arith) (rest_refuses_nothing few many after-large));
       }
 
-pub nothing_refused : {r m : ℕ} {refusal : Refusal} → refusal ≡ bars_refusal r m → refusal.number ≡ 0 → Barred r m
-nothing_refused {r} {m} is nothing = unrefused_barred r m (rw is at nothing)
+pub nothing_refused : {r m : ℕ} → none ≡ bars_refusal r m → Barred r m
+nothing_refused {r} {m} is = unrefused_barred r m (refuses_nothing is)
 
 -- ---- the width
 
@@ -103,12 +105,6 @@ module _ (r kappa : ℕ) (below : kappa < 100) where
   pub hundred_widths : 100 * (kappa * r / 100) ≤ 99 * r
   hundred_widths = omega (arith, mul-le-mul_right {m = kappa} {n = 99} r (omega arith))
 
-  pub hundreds_below : r ≤ 2 ^ 62 → kappa * (r / 100) < 2 ^ 62
-  hundreds_below most = omega (arith, mul-le-mul {n₁ = kappa} {m₁ = r / 100} {n₂ = 99} {m₂ = 2 ^ 62 / 100} (omega arith) (omega arith))
-
-  pub rest_below : kappa * (r % 100) < 10000
-  rest_below = omega (arith, mul-le-mul {n₁ = kappa} {m₁ = r % 100} {n₂ = 99} {m₂ = 99} (omega arith) (omega arith))
-
 -- ---- the half
 
 module _ (w m : ℕ) (some : 1 ≤ m) where
@@ -129,17 +125,10 @@ module _ (w m : ℕ) (some : 1 ≤ m) where
       subst (λ (test : ℕ → Bool). Greatest test (greatest 64 test)) (λ i h. tests_are_one h i)
       (square_root_is_greatest (w * w / m) (lt_of_le_of_lt (div-le_self (w * w) m) (product_below (2 ^ 64) w w below below)))
 
-  -- as the words compute it
-  pub half_of_words : {p : Wide} {d : Division} {h : ℕ} → p ≡ halves (w * w) → d ≡ division_of (value p) m → h ≡ square_root (value d.quotient) →
-      h ≡ greatest 64 (λ h. leb (h * h * m) (w * w))
-  unfolding division_of
-  half_of_words {d = d} p-is d-is h-is =
-      let quotient : d.quotient ≡ halves (w * w / m) =
-      ap (λ (z : Division). z.quotient)
-      (d-is
-      ∙ ap (λ (n : ℕ). division_of n m) (ap value p-is ∙ value_of_halves (w * w))
-      ∙ choice_false _ _ (ne_eqb m 0 (λ e. omega arith))) in
-      h-is ∙ ap square_root (ap value quotient ∙ value_of_halves (w * w / m)) ∙ root_is_half
+  -- as the code computes it
+  pub half_of_words : {h : ℕ} → w < 2 ^ 64 → h * h ≤ w * w / m → w * w / m < (h + 1) * (h + 1) → h ≡ greatest 64 (λ h. leb (h * h * m) (w * w))
+  half_of_words {h} below under over =
+      root_is (w * w / m) h (lt_of_le_of_lt (div-le_self (w * w) m) (product_below (2 ^ 64) w w below below)) under over ∙ root_is_half
 
   pub half_not_above : {h : ℕ} → Greatest (λ h. leb (h * h * m) (w * w)) h → h ≤ w
   half_not_above {h} is =
@@ -186,16 +175,13 @@ module _ (r : ℕ) (t : Noise) (m : ℕ) where
   half_is kappa-is w-is h-is =
       h-is ∙ ap (λ (w : ℕ). greatest 64 (λ k. leb (k * k * m) (w * w))) (w-is ∙ ap (λ (kappa : ℕ). kappa * r / 100) kappa-is)
 
-  module _ {refusal : Refusal} {bar : Bar} (refusal_is : refusal ≡ bars_refusal r m) where
-    pub bars_refused : (refusal.number ≡ 0 → ⊥) → bar ≡ no_bar → given_up refusal bar ≡ bars_answer r t m
-    unfolding bars_answer
-    bars_refused some bar-is = rw (sym refusal_is) (ap (given_up refusal) bar-is ∙ sym (choice_false _ _ (ne_eqb refusal.number 0 some)))
+  pub bars_error : (e : Refused) → refused (number_of e.why) e.place ≡ bars_refusal r m → bars_told (Err e) ≡ bars_answer r t m
+  unfolding bars_answer
+  bars_error e is = ap (λ (refusal : Refusal). given_up refusal no_bar) is ∙ sym (choice_false _ _ (ne_eqb _ 0 (refuses e is)))
 
-    pub bars_given : refusal.number ≡ 0 → {h : ℕ} → h ≡ bar_half r t m → bar ≡ bar_of r h → given bar ≡ bars_answer r t m
-    unfolding bars_answer
-    bars_given nothing h-is bar-is =
-        ap given (bar-is ∙ ap (bar_of r) h-is)
-        ∙ rw (sym refusal_is) (sym (choice_true _ _ (eq-eqb refusal.number 0 nothing)))
+  pub bars_given : none ≡ bars_refusal r m → {h : ℕ} → h ≡ bar_half r t m → {bar : Bar} → bar ≡ bar_of r h → given bar ≡ bars_answer r t m
+  unfolding bars_answer
+  bars_given is h-is bar-is = ap given (bar-is ∙ ap (bar_of r) h-is) ∙ sym (choice_true _ _ (eq-eqb _ 0 (refuses_nothing is)))
 
 -- ---- a bar's ends are in order: the lower is not above the deviation, nor that above the upper
 

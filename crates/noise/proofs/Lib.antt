@@ -1,4 +1,3 @@
-pub mod Tables
 pub mod NoiseLaws
 pub mod BarLaws
 pub mod Answered

@@ -1,2 +1,3 @@
 pub mod Noise
 pub mod Bars
+pub mod Told

@@ -1,5 +1,5 @@
 -- Noise types: the table of the rules, and the house rule.
-use Rattle.std.specs.Prelude.{cond, not, ◌&&◌, List, ℕ, ◌*◌, ◌^◌, leb, eqb, ℤ, pos, negsuc}
+use Rattle.std.specs.Prelude.{cond, not, ◌&&◌, List, ℕ, ◌*◌, ◌^◌, leb, eqb, ℤ, pos, negsuc, ◌≡◌, ◌≢◌, Result, MatchResult}
 use Rattle.record.specs.Refusals.{refused_if, ◌then◌, record_refusal}
 use Rattle.record.specs.declared.Refusal.{Refusal}
 use Rattle.sums.specs.Published.{modified_sum, modified_count, time_denominator}
@@ -7,6 +7,7 @@ use Rattle.variances.specs.Deviations.{deviation}
 use Rattle.noise.specs.declared.Noise.{Noise}
 use Rattle.noise.specs.declared.Noise.TheVariants.{WhitePhase, FlickerPhase, WhiteFrequency, FlickerFrequency, RandomWalkFrequency}
 use Rattle.noise.specs.declared.NoiseAnswer.{NoiseAnswer}
+use Rattle.noise.specs.declared.UnknownAlpha.{UnknownAlpha}
 
 -- alpha
 unfoldable pub alpha_of : Noise → ℤ
@@ -15,6 +16,10 @@ alpha_of FlickerPhase = pos 1
 alpha_of WhiteFrequency = pos 0
 alpha_of FlickerFrequency = negsuc 0
 alpha_of RandomWalkFrequency = negsuc 1
+
+-- the result is the type that has this alpha, or an error with an alpha that no type has
+abbrev pub HasAlpha : ℤ → Result Noise UnknownAlpha → Type 0
+HasAlpha alpha r = MatchResult r (λ t. alpha_of t ≡ alpha) (λ e. (e.0 ≡ alpha) × ((t : Noise) → alpha_of t ≢ alpha))
 
 -- kappa in hundredths, from the definitions paper
 unfoldable pub kappa_of : Noise → ℕ

@@ -2,10 +2,12 @@
 ghost use Rattle.std.specs.Prelude.{◌≡◌, ◌*◌, ◌/◌, ◌≤◌, ◌<◌, ◌^◌, leb};
 ghost use Rattle.laws.specs.Greatest.{greatest};
 ghost use Rattle.plot.specs.Drawn.{drawn_number};
+ghost use Rattle.record.specs.Told.{told};
 ghost use Rattle.noise.specs.Bars.{bars_refusal, bar_of, no_bar, bars_answer};
+ghost use Rattle.noise.specs.Told.{bars_told};
 
-use crate::{Noise, at_nought, kappa};
-use record::Refusal;
+use crate::{LARGEST_DEVIATION, Noise};
+use record::{Ground, Refused};
 
 // Three doubles: the lower end, the deviation, the upper end.
 #[repr(C)]
@@ -16,7 +18,7 @@ pub struct Bar {
     pub high: f64,
 }
 
-// A bar row beside the refusal.
+// A bar row as C is told it; noughts beside a refusal.
 #[repr(C)]
 #[derive(Clone, Copy)]
 pub struct BarsAnswer {
@@ -25,43 +27,58 @@ pub struct BarsAnswer {
     pub bar: Bar,
 }
 
-// The bars of deviation r with noise of a type over M intervals. Refuses 8, 3, 1, then 2.
+// The bar of deviation r with noise of a type over M intervals. Refuses 8, 3, 1, then 2.
+pub fn row(r: u64, noise: Noise, intervals: u64) -> Result<Bar, Refused>
+    ensures { bars_told result ≡ bars_answer r noise intervals }
+{
+    check_bars(r, intervals)?;
+    let half = half_of(width_of(r, noise.kappa()), intervals);
+    Ok(bar_of(r, half))
+}
+
+// The same as C is told it.
 pub fn bars(r: u64, noise: Noise, intervals: u64) -> BarsAnswer
     ensures { result ≡ bars_answer r noise intervals }
 {
-    let refusal = bars_refusal(r, intervals);
-    if refusal.number != 0 {
-        return BarsAnswer {
-            number: refusal.number,
-            place: refusal.place,
-            bar: no_bar(),
-        };
-    }
-    let half = half_of(width_of(r, kappa(noise)), intervals);
-    BarsAnswer {
-        number: 0,
-        place: 0,
-        bar: bar_of(r, half),
+    BarsAnswer::from(row(r, noise, intervals))
+}
+
+impl From<Result<Bar, Refused>> for BarsAnswer {
+    ghost from_gives = { λ row answer. answer ≡ bars_told row };
+
+    fn from(row: Result<Bar, Refused>) -> BarsAnswer {
+        match row {
+            Ok(bar) => BarsAnswer {
+                number: 0,
+                place: 0,
+                bar,
+            },
+            Err(refused) => BarsAnswer {
+                number: refused.why.into(),
+                place: refused.place,
+                bar: no_bar(),
+            },
+        }
     }
 }
 
 // 8 for r = 0, 3 for r above 2^62, 1 for M below 10, 2 for M above 32,767.
-fn bars_refusal(r: u64, intervals: u64) -> Refusal
-    ensures { result ≡ bars_refusal r intervals }
+fn check_bars(r: u64, intervals: u64) -> Result<(), Refused>
+    ensures { told result ≡ bars_refusal r intervals }
 {
     if r == 0 {
-        return at_nought(record::NO_DEVIATION);
+        return Err(Ground::NoDeviation.at(0));
     }
-    if 4611686018427387904 < r {
-        return at_nought(record::OUT_OF_RANGE);
+    if LARGEST_DEVIATION < r {
+        return Err(Ground::OutOfRange.at(0));
     }
     if intervals < 10 {
-        return at_nought(record::TOO_FEW);
+        return Err(Ground::TooFew.at(0));
     }
     if record::MOST_READINGS < intervals {
-        return at_nought(record::TOO_MANY);
+        return Err(Ground::TooMany.at(0));
     }
-    at_nought(0)
+    Ok(())
 }
 
 // w: kappa hundredths of r, floored. With r = 100 q + s it is kappa q + floor(kappa s / 100), which fits a word.
@@ -77,8 +94,7 @@ fn half_of(width: u64, intervals: u64) -> u64
     requires { 1 ≤ intervals }
     ensures { result ≡ greatest 64 (λ k. leb (k * k * intervals) (width * width)) }
 {
-    let division = wide::divided(wide::product(width, width), intervals);
-    wide::root(division.quotient)
+    (width as u128 * width as u128 / intervals as u128).isqrt() as u64
 }
 
 // The row drawn from r - h, r and r + h; h is below r, so that r - h is no wrap and at least 1.
@@ -97,8 +113,7 @@ fn draw(r: u64) -> f64
     requires { (1 ≤ r) × (r ≤ 2 ^ 63) }
     ensures { result ≡ drawn_number r }
 {
-    let answer = plot::drawn::drawn_number(r);
-    answer.value
+    plot::drawn::number(r).unwrap()
 }
 
 // Noughts.

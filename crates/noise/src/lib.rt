@@ -4,21 +4,77 @@
 
 pub mod bars;
 
-ghost use Rattle.std.specs.Prelude.{◌≡◌, ◌≤◌, pos, nat_abs, ◌-ℤ◌};
+ghost use Rattle.std.specs.Prelude.{◌≡◌};
 ghost use Rattle.record.specs.Refusals.{none, record_refusal};
 ghost use Rattle.sums.specs.Answers.{modified_demand};
-ghost use Rattle.noise.specs.Noise.{alpha_of, kappa_of, noise_of, noise_refusal, type_answer, time_deviation, record_type_answer};
+ghost use Rattle.record.specs.Told.{told};
+ghost use Rattle.noise.specs.Noise.{alpha_of, HasAlpha, kappa_of, noise_of, noise_refusal, type_answer, time_deviation, record_type_answer};
+ghost use Rattle.noise.specs.Told.{noise_told};
 
-use record::{Demand, Refusal};
+use record::{Demand, Ground, Refused};
 
-// The five types; no other can be handed in.
-#[derive(Clone, Copy)]
+// The five types, in the order of their alphas, from 2 down; no other can be handed in.
+#[derive(Clone, Copy, Debug, PartialEq, Eq)]
 pub enum Noise {
     WhitePhase,
     FlickerPhase,
     WhiteFrequency,
     FlickerFrequency,
     RandomWalkFrequency,
+}
+
+impl Noise {
+    // Kappa in hundredths.
+    #[tactic(auto, unfolding(crate::specs::Noise::kappa_of))]
+    pub(crate) fn kappa(self) -> u64
+        ensures { result ≡ kappa_of self }
+    {
+        match self {
+            Noise::WhitePhase | Noise::FlickerPhase => 99,
+            Noise::WhiteFrequency => 87,
+            Noise::FlickerFrequency => 77,
+            Noise::RandomWalkFrequency => 75,
+        }
+    }
+}
+
+// An alpha that no type has.
+#[derive(Clone, Copy, Debug, PartialEq, Eq)]
+pub struct UnknownAlpha(pub i64);
+
+// A type as its alpha.
+impl From<Noise> for i64 {
+    ghost from_gives = { λ noise alpha. alpha ≡ alpha_of noise };
+
+    #[tactic(auto, unfolding(crate::specs::Noise::alpha_of))]
+    fn from(noise: Noise) -> i64 {
+        match noise {
+            Noise::WhitePhase => 2,
+            Noise::FlickerPhase => 1,
+            Noise::WhiteFrequency => 0,
+            Noise::FlickerFrequency => -1,
+            Noise::RandomWalkFrequency => -2,
+        }
+    }
+}
+
+// The type that has an alpha.
+impl TryFrom<i64> for Noise {
+    type Error = UnknownAlpha;
+
+    ghost try_from_gives = { HasAlpha };
+
+    #[tactic(auto, unfolding(crate::specs::Noise::alpha_of))]
+    fn try_from(alpha: i64) -> Result<Noise, UnknownAlpha> {
+        match alpha {
+            2 => Ok(Noise::WhitePhase),
+            1 => Ok(Noise::FlickerPhase),
+            0 => Ok(Noise::WhiteFrequency),
+            -1 => Ok(Noise::FlickerFrequency),
+            -2 => Ok(Noise::RandomWalkFrequency),
+            _ => Err(UnknownAlpha(alpha)),
+        }
+    }
 }
 
 // A type; beside a refusal it is the first of the table.
@@ -29,10 +85,15 @@ pub struct NoiseAnswer {
     pub noise: Noise,
 }
 
-// Kappa in hundredths, by type.
-const KAPPA: [u64; 5] = [99, 99, 87, 77, 75];
-// The bounds of the types but the last, in 4096ths of r2 / r1.
-const BOUNDS: [u64; 4] = [3444, 4871, 6889, 9742];
+// The types but the last, each with its bound in 4096ths of r2 / r1.
+const BOUNDS: [(Noise, u64); 4] = [
+    (Noise::WhitePhase, 3444),
+    (Noise::FlickerPhase, 4871),
+    (Noise::WhiteFrequency, 6889),
+    (Noise::FlickerFrequency, 9742),
+];
+// The largest deviation that has a type or a bar.
+pub(crate) const LARGEST_DEVIATION: u64 = 1 << 62;
 // What the type of a record asks of it: N at least 6m.
 pub const NOISE: Demand = Demand {
     largest: 5461,
@@ -41,37 +102,52 @@ pub const NOISE: Demand = Demand {
 };
 
 // The type by the time deviations at m and 2m. Refuses 3 for one above 2^62, then 8 for r1 = 0.
-pub fn noise_type(r1: u64, r2: u64) -> NoiseAnswer
-    ensures { result ≡ type_answer r1 r2 }
+pub fn by_deviations(r1: u64, r2: u64) -> Result<Noise, Refused>
+    ensures { noise_told result ≡ type_answer r1 r2 }
 {
-    let refusal = noise_refusal(r1, r2);
-    if refusal.number != 0 {
-        return refused(refusal);
-    }
-    NoiseAnswer {
-        number: 0,
-        place: 0,
-        noise: type_at(bound_of(r1, r2)),
-    }
+    check_deviations(r1, r2)?;
+    Ok(noise_of(r1, r2))
 }
 
 // The type of a record at factor m. Refuses 5, 2, 1, 3 at the lowest index, then 8.
+pub fn of_record(samples: &[i64], m: u64) -> Result<Noise, Refused>
+    ensures { noise_told result ≡ record_type_answer m samples.now }
+{
+    record::check_record(NOISE, m, samples)?;
+    by_deviations(time_deviation(samples, m), time_deviation(samples, 2 * m))
+}
+
+// The type by two deviations as it is told.
+pub fn noise_type(r1: u64, r2: u64) -> NoiseAnswer
+    ensures { result ≡ type_answer r1 r2 }
+{
+    NoiseAnswer::from(by_deviations(r1, r2))
+}
+
+// The type of a record as it is told.
 pub fn noise_of_record(samples: &[i64], m: u64) -> NoiseAnswer
     ensures { result ≡ record_type_answer m samples.now }
 {
-    let refusal = record::record_refusal(NOISE, m, samples);
-    if refusal.number != 0 {
-        return refused(refusal);
-    }
-    noise_type(time_deviation(samples, m), time_deviation(samples, 2 * m))
+    NoiseAnswer::from(of_record(samples, m))
 }
 
-// Kappa of a type, in hundredths.
-pub(crate) fn kappa(noise: Noise) -> u64
-    ensures { result ≡ kappa_of noise }
-{
-    let at = index_of(noise);
-    KAPPA[at]
+impl From<Result<Noise, Refused>> for NoiseAnswer {
+    ghost from_gives = { λ found answer. answer ≡ noise_told found };
+
+    fn from(found: Result<Noise, Refused>) -> NoiseAnswer {
+        match found {
+            Ok(noise) => NoiseAnswer {
+                number: 0,
+                place: 0,
+                noise,
+            },
+            Err(refused) => NoiseAnswer {
+                number: refused.why.into(),
+                place: refused.place,
+                noise: Noise::WhitePhase,
+            },
+        }
+    }
 }
 
 // The time deviation of a record that is sound for the modified sum.
@@ -79,83 +155,32 @@ fn time_deviation(samples: &[i64], m: u64) -> u64
     requires { record_refusal modified_demand m samples.now ≡ none }
     ensures { result ≡ time_deviation m samples.now }
 {
-    let modified = sums::modified_sum(samples, m);
-    let answer = variances::time_deviation(modified.sum, m, modified.count);
-    answer.deviation
+    let modified = sums::modified(samples, m).unwrap();
+    variances::deviations::time_root(modified, m).unwrap()
 }
 
 // 3 for a deviation above 2^62, then 8 for r1 = 0.
-fn noise_refusal(r1: u64, r2: u64) -> Refusal
-    ensures { result ≡ noise_refusal r1 r2 }
+fn check_deviations(r1: u64, r2: u64) -> Result<(), Refused>
+    ensures { told result ≡ noise_refusal r1 r2 }
 {
-    if 4611686018427387904 < r1 {
-        return at_nought(record::OUT_OF_RANGE);
-    }
-    if 4611686018427387904 < r2 {
-        return at_nought(record::OUT_OF_RANGE);
+    if LARGEST_DEVIATION < r1 || LARGEST_DEVIATION < r2 {
+        return Err(Ground::OutOfRange.at(0));
     }
     if r1 == 0 {
-        return at_nought(record::NO_DEVIATION);
+        return Err(Ground::NoDeviation.at(0));
     }
-    at_nought(0)
+    Ok(())
 }
 
-// The place of the type by the house rule: the first bound that 4096 r2 is at or under, of r1 times each; 4 where it is above all.
-fn bound_of(r1: u64, r2: u64) -> usize
-    ensures { result ≡ nat_abs (pos 2 -ℤ alpha_of (noise_of r1 r2)) }
+// The type by the house rule: that of the first bound that 4096 r2 is at or under, of r1 times each; the last type where it is above all.
+fn noise_of(r1: u64, r2: u64) -> Noise
+    ensures { result ≡ noise_of r1 r2 }
 {
     let ratio = wide::product(4096, r2);
-    let mut i: usize = 0;
-    while i < 4 {
-        if wide::at_most(ratio, wide::product(r1, BOUNDS[i])) {
-            return i;
+    for (noise, bound) in BOUNDS {
+        if ratio <= wide::product(r1, bound) {
+            return noise;
         }
-        i += 1;
     }
-    i
-}
-
-// The type at a place of the table.
-fn type_at(index: usize) -> Noise
-    requires { index ≤ 4 }
-    ensures { index ≡ nat_abs (pos 2 -ℤ alpha_of result) }
-{
-    match index {
-        0 => Noise::WhitePhase,
-        1 => Noise::FlickerPhase,
-        2 => Noise::WhiteFrequency,
-        3 => Noise::FlickerFrequency,
-        _ => Noise::RandomWalkFrequency,
-    }
-}
-
-// The place of a type in the table, whose alpha falls from 2 by one a row.
-fn index_of(noise: Noise) -> usize
-    ensures { result ≡ nat_abs (pos 2 -ℤ alpha_of noise) }
-{
-    match noise {
-        Noise::WhitePhase => 0,
-        Noise::FlickerPhase => 1,
-        Noise::WhiteFrequency => 2,
-        Noise::FlickerFrequency => 3,
-        Noise::RandomWalkFrequency => 4,
-    }
-}
-
-// A refusal at place 0; number 0 refuses nothing.
-pub(crate) fn at_nought(number: u64) -> Refusal
-    ensures { result ≡ record { number = number; place = 0 } }
-{
-    Refusal { number, place: 0 }
-}
-
-// A refusal beside the first type.
-fn refused(refusal: Refusal) -> NoiseAnswer
-    ensures { result ≡ record { number = refusal.number; place = refusal.place; noise = Noise.WhitePhase } }
-{
-    NoiseAnswer {
-        number: refusal.number,
-        place: refusal.place,
-        noise: Noise::WhitePhase,
-    }
+    Noise::RandomWalkFrequency
 }

@@ -1,13 +1,17 @@
--- The two cases of a call that reads a file, of version 1 or of either: refused, with the buffer as it came, and answered, with the values at its
--- front.
-use Rattle.std.proofs.Common.{◌≡◌, ℕ, ◌<◌, Bool, true, false, cond, eqb, List, length, ℤ, pos, sym, refl, ap, ◌∙◌, arith, ne_eqb, eqb-true}
+-- The two cases of a call that reads a file, of version 1 or of either, or a header: an error as it is told, and what was read.
+use Rattle.std.proofs.Common.{◌≡◌, ℕ, Bool, true, false, cond, eqb, List, length, ℤ, pos, sym, refl, ap, ◌∙◌, ne_eqb, eqb-true, Ok, Err}
 use borrow.Author.Tests.{eqb-false}
-use Rattle.laws.specs.Lists.{written}
 use Rattle.record.specs.Answers.{buffer_left}
 use Rattle.record.specs.Refusals.{none, refused}
-use Rattle.phr.specs.Bytes.{values_from}
-use Rattle.phr.specs.Reading.{kind_of, count_of, values_of, read_refusal, read_answer, head_length, record_values, read_record_refusal, record_answer, read_record_answer, counted_header_refusal, header_answer}
-use Rattle.phr.specs.declared.ReadAnswer.{ReadAnswer}
+use Rattle.record.specs.Told.{number_of}
+use Rattle.record.specs.declared.Refusal.{Refusal}
+use Rattle.record.specs.declared.grounds.Refused.{Refused}
+use Rattle.record.proofs.ToldLaws.{answered_not}
+use Rattle.phr.specs.Reading.{kind_of, count_of, values_of, read_refusal, read_answer, record_values, read_record_refusal, record_answer, read_record_answer, counted_header_refusal, header_answer}
+use Rattle.phr.specs.Kinds.{number_of_kind}
+use Rattle.phr.specs.Told.{read_told, record_told}
+use Rattle.phr.specs.declared.Held.{Held}
+use Rattle.phr.specs.declared.Contents.{Contents}
 use Rattle.phr.specs.declared.RecordAnswer.{RecordAnswer}
 
 -- the lent buffer as it is left
@@ -21,42 +25,40 @@ record_buffer bytes buffer = buffer_left (read_record_refusal bytes (length buff
 abbrev no_record : ℕ → ℕ → RecordAnswer
 no_record n p = record { number = n; place = p; version = 0; kind = 0; start = pos 0; count = 0 }
 
-module _ (bytes : List ℕ) (room : ℕ) (buffer : List ℤ) where
-  pub read_refused : {answer : ReadAnswer} (n p : ℕ) → 0 < n → read_refusal bytes room ≡ refused n p → answer ≡ record { number = n; place = p; kind = 0; count = 0 } →
-      (answer ≡ read_answer bytes room) × (buffer ≡ buffer_left (read_refusal bytes room) (values_of bytes) buffer)
-  unfolding read_answer buffer_left
-  read_refused n p h e a =
-      let numbered = ne_eqb n 0 (λ z. omega arith) in
-      (a ∙ rw (e, numbered), rw (e, numbered))
+module _ (bytes : List ℕ) (room : ℕ) where
+  pub read_error : (e : Refused) → refused (number_of e.why) e.place ≡ read_refusal bytes room → read_told (Err e) ≡ read_answer bytes room
+  unfolding read_answer
+  read_error e is = rw (← is, ne_eqb (number_of e.why) 0 (answered_not e))
 
-  pub read_answered : {kind count : ℕ} {left : List ℤ} → read_refusal bytes room ≡ none → kind ≡ kind_of bytes → count ≡ count_of bytes →
-      left ≡ written (values_from 8 count bytes) buffer →
-      (record { number = 0; place = 0; kind = kind; count = count } ≡ read_answer bytes room) × (left ≡ buffer_left (read_refusal bytes room) (values_of bytes) buffer)
-  unfolding read_answer buffer_left values_of
-  read_answered e k n w = (rw (e, k, n), w ∙ rw (e, n))
+  pub read_value : none ≡ read_refusal bytes room → (h : Held) → number_of_kind h.kind ≡ kind_of bytes → h.count ≡ count_of bytes → read_told (Ok h) ≡ read_answer bytes room
+  unfolding read_answer
+  read_value is h k n = rw (← is, k, n)
 
-  pub record_refused : {answer : RecordAnswer} (n p : ℕ) → 0 < n → read_record_refusal bytes room ≡ refused n p → answer ≡ no_record n p →
-      (answer ≡ read_record_answer bytes room) × (buffer ≡ buffer_left (read_record_refusal bytes room) (record_values bytes) buffer)
-  unfolding read_record_answer buffer_left
-  record_refused n p h e a =
-      let numbered = ne_eqb n 0 (λ z. omega arith) in
-      (a ∙ rw (e, numbered), rw (e, numbered))
+-- the refusal of a record or of a header, and what is answered by it
+module _ (bytes : List ℕ) {r : Refusal} where
+  answer_error : (e : Refused) → refused (number_of e.why) e.place ≡ r → record_told (Err e) ≡ record_answer r bytes
+  answer_error e is = rw (← is, ne_eqb (number_of e.why) 0 (answered_not e))
 
-  pub record_answered : {answer : RecordAnswer} {count head : ℕ} {left : List ℤ} → read_record_refusal bytes room ≡ none → answer ≡ record_answer none bytes →
-      count ≡ count_of bytes → head ≡ head_length bytes → left ≡ written (values_from head count bytes) buffer →
-      (answer ≡ read_record_answer bytes room) × (left ≡ buffer_left (read_record_refusal bytes room) (record_values bytes) buffer)
-  unfolding read_record_answer buffer_left record_values
-  record_answered e a n h w = (a ∙ rw e, w ∙ rw (e, n, h))
+  answer_value : none ≡ r → (h : Contents) → record_told (Ok h) ≡ record_answer none bytes → record_told (Ok h) ≡ record_answer r bytes
+  answer_value is h said = rw (← is) said
 
--- and of a call that reads a header
+module _ (bytes : List ℕ) (room : ℕ) where
+  pub record_error : (e : Refused) → refused (number_of e.why) e.place ≡ read_record_refusal bytes room → record_told (Err e) ≡ read_record_answer bytes room
+  unfolding read_record_answer
+  record_error e is = answer_error bytes e is
+
+  pub record_value : none ≡ read_record_refusal bytes room → (h : Contents) → record_told (Ok h) ≡ record_answer none bytes → record_told (Ok h) ≡ read_record_answer bytes room
+  unfolding read_record_answer
+  record_value is h said = answer_value bytes is h said
+
 module _ (bytes : List ℕ) where
-  pub header_refused : {answer : RecordAnswer} (n p : ℕ) → 0 < n → counted_header_refusal bytes ≡ refused n p → answer ≡ no_record n p → answer ≡ header_answer bytes
+  pub header_error : (e : Refused) → refused (number_of e.why) e.place ≡ counted_header_refusal bytes → record_told (Err e) ≡ header_answer bytes
   unfolding header_answer
-  header_refused n p h e a = a ∙ rw (e, ne_eqb n 0 (λ z. omega arith))
+  header_error e is = answer_error bytes e is
 
-  pub header_answered : {answer : RecordAnswer} → counted_header_refusal bytes ≡ none → answer ≡ record_answer none bytes → answer ≡ header_answer bytes
+  pub header_value : none ≡ counted_header_refusal bytes → (h : Contents) → record_told (Ok h) ≡ record_answer none bytes → record_told (Ok h) ≡ header_answer bytes
   unfolding header_answer
-  header_answered e a = a ∙ rw e
+  header_value is h said = answer_value bytes is h said
 
   -- what is told by the answer
   pub header_told_refused : {answer : RecordAnswer} → answer ≡ header_answer bytes → (answer.number ≡ 0 → ⊥) → counted_header_refusal bytes ≡ refused answer.number answer.place

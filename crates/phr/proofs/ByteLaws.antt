@@ -1,7 +1,6 @@
 -- Bytes, low byte first, and the number that they make give each other back. Laws of any list stand first: a buffer that is written from a place
 -- on, and a list's front by its entries.
-use Rattle.std.proofs.Common.{◌≡◌, ℕ, zero, suc, ◌+◌, ◌*◌, ◌/◌, ◌%◌, ◌^◌, ◌<◌, ◌≤◌, List, [], ◌∷◌, ◌++◌, length, get_or, take, drop, refl, ap, ◌∙◌, append_assoc, add_assoc, pow-suc, arith, length-append, take-append-drop, length-take-le, get_or-drop, drop-drop, take_at, drop_at}
-use lib.Seq.{sets, sets-eq}
+use Rattle.std.proofs.Common.{◌≡◌, ℕ, zero, suc, ◌+◌, ◌*◌, ◌/◌, ◌%◌, ◌^◌, ◌<◌, ◌≤◌, List, [], ◌∷◌, ◌++◌, length, get_or, take, drop, refl, ap, append_assoc, add_assoc, pow-suc, arith, length-append, take-append-drop, length-take-le, get_or-drop, drop-drop, take_at, drop_at}
 use Rattle.laws.specs.Lists.{written, tabulate}
 use Rattle.laws.proofs.Halves.{high_part_below}
 use Rattle.phr.specs.Bytes.{low_first, from_low_first}
@@ -29,9 +28,6 @@ module _ {A : Type 0} (place : ℕ) (out buffer : List A) (room : place + length
   -- one output, and another where it ends
   pub written_from_next : (more : List A) → written_from (place + length out) more (written_from place out buffer) ≡ written_from place (out ++ more) buffer
   written_from_next more = rw (written_from_front, written_from_rest) (simp (append_assoc, length-append, drop-drop, add_assoc))
-
-  pub stores_from : sets buffer place out ≡ written_from place out buffer
-  stores_from = sets-eq out buffer place room ∙ simp (append_assoc, drop-drop)
 
 -- ---- the front of a list, by its entries
 
@@ -92,8 +88,3 @@ from_low_first_back (b ∷ bytes) all =
     let low : (b + 256 * from_low_first bytes) % 256 ≡ b = omega (arith, all 0) in
     let rest : (b + 256 * from_low_first bytes) / 256 ≡ from_low_first bytes = omega (arith, all 0) in
     rw (low, rest, from_low_first_back bytes (λ i. all (suc i)))
-
-pub from_low_first_append : (xs ys : List ℕ) → from_low_first (xs ++ ys) ≡ from_low_first xs + 256 ^ length xs * from_low_first ys
-unfolding from_low_first
-from_low_first_append [] ys = omega arith
-from_low_first_append (x ∷ xs) ys = rw (pow-suc, from_low_first_append xs ys) (omega arith)

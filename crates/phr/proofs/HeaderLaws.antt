@@ -1,12 +1,12 @@
 -- The first eight bytes: the tests of each place, the search for the first that fails, and the bytes as they are stored.
-use Rattle.std.proofs.Common.{◌≡◌, ℕ, zero, suc, ◌+◌, ◌/◌, ◌%◌, ◌<◌, ◌≤◌, Bool, true, false, cond, ◌||◌, eqb, List, [], ◌∷◌, ◌++◌, length, get_or, drop, ℤ, refl, ap, ◌∙◌, mod-eq_of_lt, add-one, arith, drop_of_length-le, drop-cons}
-use lib.Seq.{sets}
+use Rattle.std.proofs.Common.{◌≡◌, ℕ, min, inl, inr, zero, suc, ◌+◌, ◌/◌, ◌%◌, ◌<◌, ◌≤◌, Bool, true, false, cond, ◌||◌, eqb, List, [], ◌∷◌, ◌++◌, length, get_or, drop, ℤ, refl, ap, ◌∙◌, add-one, arith, drop_of_length-le, drop-cons}
+use Rattle.std.proofs.lemmas.Bool.{cases_lt}
 use Rattle.laws.specs.Lists.{written}
 use Rattle.laws.proofs.Tests.{choice_true, choice_false}
 use Rattle.phr.specs.Bytes.{low_first, twos_complement, values_bytes}
 use Rattle.phr.specs.File.{first_eight, header, file_of, header_from, file_from}
 use Rattle.phr.specs.Reading.{tests_of, header_tests, sound_up_to}
-use Rattle.phr.proofs.ByteLaws.{written_from, written_from_next, stores_from}
+use Rattle.phr.proofs.ByteLaws.{written_from, written_from_next}
 
 -- ---- the test of each place
 
@@ -65,6 +65,15 @@ module _ (tests : List (ℕ → Bool)) (bytes : List ℕ) (place : ℕ) (so_far 
   unfolding sound_up_to
   tests_end h = let none : sound_up_to (drop place tests) (drop place bytes) ≡ 0 = rw (drop_of_length-le tests h) in omega (arith, so_far)
 
+-- the search stands where the bytes or the tests end
+pub sound_ends : (tests : List (ℕ → Bool)) (bytes : List ℕ) → let place = min (length bytes) (length tests) in
+    sound_up_to tests bytes ≡ place + sound_up_to (drop place tests) (drop place bytes) → sound_up_to tests bytes ≡ place
+sound_ends tests bytes so_far =
+    elim (cases_lt (length bytes) (length tests)) [
+      | inl short ↦ bytes_end tests bytes (min (length bytes) (length tests)) so_far (omega arith)
+      | inr long ↦ tests_end tests bytes (min (length bytes) (length tests)) so_far (omega arith)
+    ]
+
 pub passed_before : (tests : List (ℕ → Bool)) (bytes : List ℕ) (i : ℕ) → i < sound_up_to tests bytes → get_or tests i (λ _. true) (get_or bytes i 0) ≡ true
 unfolding sound_up_to
 passed_before [] bytes i h = refl
@@ -79,12 +88,13 @@ passed_before (test ∷ tests) (b ∷ bytes) i h = step i (test b) refl (passed_
 
 -- ---- the first eight bytes as they are stored
 
-pub first_eight_stored : (version kind count : ℕ) (buffer : List ℕ) → kind ≤ 1 → 8 ≤ length buffer →
-    sets buffer 0 (80 ∷ 72 ∷ 82 ∷ version % 256 ∷ version / 256 % 256 ∷ kind % 256 ∷ count % 256 ∷ count / 256 % 256 ∷ []) ≡ written (first_eight version kind count) buffer
+pub first_eight_stored : (version kind count : ℕ) (buffer : List ℕ) → version < 256 → {eight : List ℕ} →
+    eight ≡ 80 ∷ 72 ∷ 82 ∷ version ∷ 0 ∷ kind ∷ count % 256 ∷ count / 256 % 256 ∷ [] → eight ++ drop 8 buffer ≡ written (first_eight version kind count) buffer
 unfolding first_eight low_first
-first_eight_stored version kind count buffer k room =
-    let low : kind % 256 ≡ kind = mod-eq_of_lt (omega arith) in
-    rw low (stores_from 0 (80 ∷ 72 ∷ 82 ∷ version % 256 ∷ version / 256 % 256 ∷ kind ∷ count % 256 ∷ count / 256 % 256 ∷ []) buffer room)
+first_eight_stored version kind count buffer v e =
+    let low : version % 256 ≡ version = omega arith in
+    let high : version / 256 % 256 ≡ 0 = omega arith in
+    rw (e, low, high)
 
 -- ---- a file as it is stored
 

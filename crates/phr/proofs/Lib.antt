@@ -1,6 +1,7 @@
 pub mod ByteLaws
 pub mod SignLaws
 pub mod ValueLaws
+pub mod ChunkLaws
 pub mod RangeCases
 pub mod RangeSearch
 pub mod RangePass
@@ -12,5 +13,6 @@ pub mod FrontLaws
 pub mod WriteCases
 pub mod AnswerCases
 pub mod RoundTrip
+pub mod KindLaws
 pub mod RecordRoundTrip
 pub mod Unique

@@ -1,11 +1,8 @@
--- Two's complement is what the machine reads and writes, so that a signed number of 64 bits and its word give each other back; and what the code
--- makes of a word's top bit is two's complement, with no overflow on the way.
-use Rattle.std.proofs.Common.{◌≡◌, ℕ, suc, ◌-◌, ◌^◌, ◌<◌, ◌≤◌, Bool, true, false, cond, ltb, ℤ, pos, negsuc, refl, ap, ◌∙◌, arith, to_z-of_z, w64, SFits, to_z, of_z, le-ltb}
+-- Two's complement is what the machine reads and writes, so that a signed number of 64 bits and its word give each other back.
+use Rattle.std.proofs.Common.{◌≡◌, ℕ, suc, ◌-◌, ◌^◌, ◌<◌, Bool, true, false, cond, ltb, ℤ, pos, negsuc, refl, ap, arith, to_z-of_z, w64, SFits, to_z, of_z}
 use lib.Signed.{mag}
 use mir.Val.{sel}
 use mir.Facts.{Fits-of_z, of_z-to_z}
-use Rattle.laws.proofs.Expressions.{Expression, ±◌, #◌, ◌∋◌, ◌⊖◌, equation}
-use Rattle.laws.proofs.Machine.{Fit, machine, machine_is}
 use Rattle.phr.specs.Bytes.{twos_complement, signed}
 
 -- ---- two's complement, as the machine reads and writes it
@@ -33,21 +30,6 @@ twos_complement_back z f = rw (twos_complement_is, signed_is) (to_z-of_z f)
 
 pub signed_back : (n : ℕ) → n < 2 ^ 64 → twos_complement (signed n) ≡ n
 signed_back n h = rw (twos_complement_is, signed_is) (of_z-to_z {w = w64} (record { fits = h }))
-
--- ---- a word with its top bit set stands for -(2^64 - 1 - n) - 1
-
-abbrev pub from_top : ℕ → Expression
-from_top n = # 0 ⊖ (2 ^ 64 - 1 - n) ∋ pos (2 ^ 64 - 1 - n) ⊖ # 1
-
-module _ (n : ℕ) (top : 2 ^ 63 ≤ n) (below : n < 2 ^ 64) where
-  pub from_top_fits : Fit w64 (from_top n)
-  from_top_fits = omega arith
-
-  pub from_top_is : machine w64 (from_top n) ≡ signed n
-  unfolding signed
-  from_top_is =
-      machine_is w64 (from_top n) from_top_fits
-      ∙ rw (le-ltb n (2 ^ 63) top) (equation (from_top n) (± negsuc (2 ^ 64 - 1 - n)) (omega arith))
 
 -- ---- a value that the machine loads is the value
 

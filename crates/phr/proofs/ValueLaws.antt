@@ -1,37 +1,15 @@
 -- A value and its eight bytes give each other back at any place of a list, and so do values one after the other.
-use Rattle.std.proofs.Common.{◌≡◌, ℕ, zero, suc, ◌+◌, ◌*◌, ◌/◌, ◌%◌, ◌^◌, ◌<◌, ◌≤◌, List, [], ◌∷◌, ◌++◌, length, get_or, take, drop, set, ℤ, pos, sym, refl, ap, ◌∙◌, ap₂, append_assoc, append-nil, add-one, arith, length-append, length-drop, take-append-drop, length-take-le, drop-cons, take-suc, drop-drop, take_at, take-add, drop_at, w64, SFits, to_z, of_z}
-use native.Mathlib.Nat.{div-div-eq-div-mul}
-use native.Mathlib.Numerals.{add-two, add-three, add-four, add_five, add_six, add_seven}
+use Rattle.std.proofs.Common.{◌≡◌, ℕ, zero, suc, ◌+◌, ◌*◌, ◌^◌, ◌<◌, ◌≤◌, List, [], ◌∷◌, ◌++◌, length, take, drop, ℤ, pos, sym, refl, ap, ◌∙◌, ap₂, append_assoc, append-nil, add-one, arith, length-append, length-drop, take-append-drop, length-take-le, take-suc, drop-drop, take_at, take-add, drop_at, w64, SFits, to_z, of_z}
 use lib.Seq.{take-length, take-append-le, drop-append-le}
 use lib.Signed.{mag}
 use Rattle.laws.specs.Lists.{at, tabulate}
 use Rattle.laws.proofs.ListLaws.{tabulate_length, tabulate_entry, tabulate_equal, tabulate_front}
 use Rattle.phr.specs.Bytes.{low_first, from_low_first, twos_complement, values_bytes, value_at, values_from}
 use Rattle.phr.specs.File.{AreBytes}
-use Rattle.phr.proofs.ByteLaws.{written_from, written_from_none, written_from_next, stores_from, bytes_taken, bytes_dropped, bytes_joined, low_first_length, low_first_bytes, low_first_back, from_low_first_below, from_low_first_back, from_low_first_append}
+use Rattle.phr.proofs.ByteLaws.{written_from, written_from_none, written_from_next, bytes_taken, bytes_dropped, bytes_joined, low_first_length, low_first_bytes, low_first_back, from_low_first_below, from_low_first_back}
 use Rattle.phr.proofs.SignLaws.{twos_complement_below, twos_complement_back, signed_back, loaded_value}
 
 -- ---- the number that bytes from a place on make
-
-module _ (bytes : List ℕ) (place : ℕ) where
-  next_byte : (k : ℕ) → place < length bytes →
-      from_low_first (take (suc k) (drop place bytes)) ≡ get_or bytes place 0 + 256 * from_low_first (take k (drop (suc place) bytes))
-  unfolding from_low_first
-  next_byte k h = rw (drop-cons bytes place 0 h)
-
-pub four_bytes_make : (bytes : List ℕ) (place : ℕ) → place + 4 ≤ length bytes →
-    get_or bytes place 0 + 256 * get_or bytes (place + 1) 0 + 65536 * get_or bytes (place + 2) 0 + 16777216 * get_or bytes (place + 3) 0
-    ≡ from_low_first (take 4 (drop place bytes))
-unfolding from_low_first
-four_bytes_make bytes place h =
-    rw (add-one, add-two, add-three)
-    (omega (
-      arith,
-      next_byte bytes place 3 (omega arith),
-      next_byte bytes (suc place) 2 (omega arith),
-      next_byte bytes (suc (suc place)) 1 (omega arith),
-      next_byte bytes (suc (suc (suc place))) 0 (omega arith),
-    ))
 
 module _ (bytes : List ℕ) (place k : ℕ) (inside : place + k ≤ length bytes) where
   bytes_there : length (take k (drop place bytes)) ≡ k
@@ -41,33 +19,10 @@ module _ (bytes : List ℕ) (place k : ℕ) (inside : place + k ≤ length bytes
   bytes_make_below all =
       rw bytes_there at (from_low_first_below (take k (drop place bytes)) (bytes_taken k (drop place bytes) (bytes_dropped place bytes all)))
 
--- low four and high four
-pub eight_bytes_make : (bytes : List ℕ) (place : ℕ) → place + 8 ≤ length bytes →
-    from_low_first (take 4 (drop place bytes)) + 4294967296 * from_low_first (take 4 (drop (place + 4) bytes)) ≡ from_low_first (take 8 (drop place bytes))
-eight_bytes_make bytes place h =
-    sym (ap from_low_first (take-add 4 4 (drop place bytes)) ∙ from_low_first_append (take 4 (drop place bytes)) (take 4 (drop 4 (drop place bytes))) ∙ rw (bytes_there bytes place 4 (omega arith), drop-drop))
+-- ---- a value as 8 bytes
 
--- ---- the bytes of a word, as they are stored
-
-pub word_bytes : (n : ℕ) → n < 2 ^ 64 →
-    low_first 8 n ≡ n % 256 ∷ n / 256 % 256 ∷ n / 65536 % 256 ∷ n / 16777216 % 256 ∷ n / 4294967296 % 256 ∷ n / 1099511627776 % 256 ∷ n / 281474976710656 % 256 ∷ n / 72057594037927936 ∷ []
-unfolding low_first
-word_bytes n h =
-    let top : n / 72057594037927936 % 256 ≡ n / 72057594037927936 = omega arith in
-    simp (div-div-eq-div-mul, top)
-
--- a value as 8 bytes
 abbrev pub value_bytes : ℤ → List ℕ
 value_bytes z = low_first 8 (twos_complement z)
-
-pub value_stored : (buffer : List ℕ) (place : ℕ) (z : ℤ) → place + 8 ≤ length buffer → SFits w64 z → {n : ℕ} → n ≡ twos_complement z →
-    set (set (set (set (set (set (set (set buffer place (n % 256)) (place + 1) (n / 256 % 256)) (place + 2) (n / 65536 % 256)) (place + 3) (n / 16777216 % 256)) (place + 4) (n / 4294967296 % 256)) (place + 5) (n / 1099511627776 % 256)) (place + 6) (n / 281474976710656 % 256)) (place + 7) (n / 72057594037927936)
-    ≡ written_from place (value_bytes z) buffer
-value_stored buffer place z room fits {n} e =
-    rw (← e, word_bytes n (rw e (twos_complement_below z fits)), add-one, add-two, add-three, add-four, add_five, add_six, add_seven)
-    (stores_from place (n % 256 ∷ n / 256 % 256 ∷ n / 65536 % 256 ∷ n / 16777216 % 256 ∷ n / 4294967296 % 256 ∷ n / 1099511627776 % 256 ∷ n / 281474976710656 % 256 ∷ n / 72057594037927936 ∷ []) buffer room)
-
--- ---- a value
 
 pub value_bytes_length : (z : ℤ) → length (value_bytes z) ≡ 8
 value_bytes_length z = low_first_length 8 (twos_complement z)

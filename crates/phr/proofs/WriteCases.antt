@@ -1,8 +1,11 @@
 -- The cases of writing's refusals in their order, and what is known of values that are not refused, in version 1 and, with a start, in version 2.
-use Rattle.std.proofs.Common.{◌≡◌, ℕ, ◌+◌, ◌*◌, ◌<◌, ◌≤◌, true, false, not, ltb, leb, List, length, ℤ, ◌∙◌, arith, ltb-false, le-ltb, lt-ltb, le-leb, leb-true}
+use Rattle.std.proofs.Common.{◌≡◌, ℕ, ◌+◌, ◌*◌, ◌<◌, ◌≤◌, true, false, not, ltb, leb, List, length, ℤ, Err, sym, ◌∙◌, arith, ltb-false, le-ltb, lt-ltb, le-leb, leb-true}
 use borrow.Author.Tests.{lt-leb, not-false}
 use Rattle.record.specs.Refusals.{none, refused, refused_if, ◌then◌, in_range}
 use Rattle.record.proofs.RefusalLaws.{first_refuses_nothing, rest_refuses_nothing, test_fails}
+use Rattle.record.specs.Told.{number_of}
+use Rattle.record.specs.declared.grounds.Refused.{Refused}
+use Rattle.phr.specs.Kinds.{OfNumber}
 use Rattle.phr.specs.File.{most_values, start_fits, values_refusal}
 use Rattle.phr.specs.Writing.{room_refusal, write_refusal, write_record_refusal}
 use Rattle.phr.proofs.ValueCases.{AllInRange, in_range_none, unrefused_in_range}
@@ -47,6 +50,9 @@ module _ (kind : ℕ) (values : List ℤ) (room : ℕ) where
   unfolding write_refusal
   no_such_kind h = simp (lt-leb kind 1 h)
 
+  pub no_kind : (e : Refused) → OfNumber kind (Err e) → refused (number_of e.why) e.place ≡ write_refusal kind values room
+  no_kind e none_has = rw none_has.1 (sym (no_such_kind none_has.0))
+
   pub kind_passes : kind ≤ 1 → write_refusal kind values room ≡ (room_refusal 8 kind (length values) room then values_refusal kind values)
   unfolding write_refusal
   kind_passes h = simp (le-leb kind 1 h)
@@ -81,6 +87,9 @@ module _ (kind : ℕ) (start : ℤ) (values : List ℤ) (room : ℕ) where
   unfolding write_record_refusal
   no_such_kind_from h = simp (lt-leb kind 1 h)
 
+  pub no_kind_from : (e : Refused) → OfNumber kind (Err e) → refused (number_of e.why) e.place ≡ write_record_refusal kind start values room
+  no_kind_from e none_has = rw none_has.1 (sym (no_such_kind_from none_has.0))
+
   module _ (known : kind ≤ 1) where
     pub start_not_nought : start_fits kind start ≡ false → write_record_refusal kind start values room ≡ refused 9 8
     unfolding write_record_refusal
@@ -90,12 +99,6 @@ module _ (kind : ℕ) (start : ℤ) (values : List ℤ) (room : ℕ) where
         ≡ (room_refusal 16 kind (length values) room then refused_if (not (in_range start)) 3 0 then values_refusal kind values)
     unfolding write_record_refusal
     start_allowed e = simp (le-leb kind 1 known, e)
-
-  pub writable_from_none : WritableFrom kind start values room → write_record_refusal kind start values room ≡ none
-  writable_from_none w =
-      let held = w.writable in
-      start_allowed held.known w.fits_start
-      ∙ rw (room_for_file 16 kind (length values) room held.few held.enough, w.start_in_range) (in_range_none kind values held.in_range)
 
   pub unrefused_from : (write_record_refusal kind start values room).number ≡ 0 → WritableFrom kind start values room
   unfolding write_record_refusal

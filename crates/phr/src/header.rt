@@ -1,27 +1,27 @@
 // The header: mark, version, kind and count, and in version 2 the starting phase.
-ghost use Rattle.std.specs.Prelude.{◌≡◌, ◌<◌, ◌≤◌, true, ◌||◌, length, ◌==◌, slice_index_or};
+ghost use Rattle.std.specs.Prelude.{◌≡◌, ◌<◌, ◌≤◌, true, ◌||◌, length, ◌==◌, slice_index_or, Ok};
 ghost use Rattle.laws.specs.Lists.{written};
-ghost use Rattle.phr.specs.File.{first_eight, most_values, start_fits};
-ghost use Rattle.phr.specs.Reading.{tests_of, sound_up_to, kind_of, count_of, version_of, head_length, start_of};
+ghost use Rattle.record.specs.Refusals.{none};
+ghost use Rattle.phr.specs.File.{first_eight};
+ghost use Rattle.phr.specs.Kinds.{number_of_kind};
+ghost use Rattle.phr.specs.Reading.{tests_of, sound_up_to, kind_of, count_of, version_of, head_length, start_of, record_answer};
+ghost use Rattle.phr.specs.Told.{record_told};
 
+use crate::Contents;
+use crate::kinds::Kind;
 use crate::values::value_at;
 
 // The place of the first wrong byte among the first eight, else where they end. The versions that are known are 1 and the newest.
 pub(crate) fn sound_up_to(bytes: &[u8], newest: u8) -> usize
     ensures { result ≡ sound_up_to (tests_of (λ b. (b == 1) || b == newest)) bytes.now }
 {
-    let mut place: usize = 0;
-    while place < 8 {
-        if bytes.len() <= place {
-            return place;
-        }
-        if header_byte(place, bytes[place], newest) {
-            place += 1;
-        } else {
+    let first = &bytes[..bytes.len().min(8)];
+    for (place, b) in first.iter().enumerate() {
+        if !header_byte(place, *b, newest) {
             return place;
         }
     }
-    place
+    first.len()
 }
 
 // Whether a byte may stand at a place of the header.
@@ -32,29 +32,23 @@ fn header_byte(place: usize, b: u8, newest: u8) -> bool
         0 => b == 80,
         1 => b == 72,
         2 => b == 82,
-        3 => version_known(b, newest),
+        3 => b == 1 || b == newest,
         4 => b == 0,
         5 => b <= 1,
         _ => true,
     }
 }
 
-// Whether a version is 1 or the newest.
-fn version_known(b: u8, newest: u8) -> bool
-    ensures { result ≡ (b == 1 || b == newest) }
+// The kind.
+pub(crate) fn kind_of(bytes: &[u8]) -> Kind
+    requires { (8 ≤ length bytes.now) × (kind_of bytes.now ≤ 1) }
+    ensures { number_of_kind result ≡ kind_of bytes.now }
 {
-    if b == 1 {
-        return true;
+    if bytes[5] == 0 {
+        Kind::Phase
+    } else {
+        Kind::Frequency
     }
-    b == newest
-}
-
-// The kind: 0 phase, 1 frequency.
-pub(crate) fn kind_of(bytes: &[u8]) -> u64
-    requires { 8 ≤ length bytes.now }
-    ensures { result ≡ kind_of bytes.now }
-{
-    word(bytes[5])
 }
 
 // How many values the header says.
@@ -62,25 +56,15 @@ pub(crate) fn count_of(bytes: &[u8]) -> usize
     requires { 8 ≤ length bytes.now }
     ensures { result ≡ count_of bytes.now }
 {
-    (word(bytes[6]) + 256 * word(bytes[7])) as usize
-}
-
-// The most values of a kind.
-pub(crate) fn most_values(kind: u64) -> usize
-    ensures { result ≡ most_values kind }
-{
-    if kind == 0 {
-        return record::MOST_SAMPLES as usize;
-    }
-    record::MOST_READINGS as usize
+    usize::from(bytes[6]) + 256 * usize::from(bytes[7])
 }
 
 // The version.
-pub(crate) fn version_of(bytes: &[u8]) -> u64
+fn version_of(bytes: &[u8]) -> u64
     requires { 8 ≤ length bytes.now }
     ensures { result ≡ version_of bytes.now }
 {
-    word(bytes[3])
+    u64::from(bytes[3])
 }
 
 // The header's length in bytes.
@@ -105,34 +89,26 @@ pub(crate) fn start_of(bytes: &[u8]) -> i64
     0
 }
 
-// Whether a kind can have a start.
-pub(crate) fn start_fits(kind: u64, start: i64) -> bool
-    ensures { result ≡ start_fits kind start }
+// What a header that is there says.
+pub(crate) fn said(bytes: &[u8]) -> Contents
+    requires { (8 ≤ length bytes.now) × (kind_of bytes.now ≤ 1) × (head_length bytes.now ≤ length bytes.now) }
+    ensures { record_told (Ok result) ≡ record_answer none bytes.now }
 {
-    if kind == 0 {
-        return start == 0;
+    Contents {
+        version: version_of(bytes),
+        kind: kind_of(bytes),
+        start: start_of(bytes),
+        count: count_of(bytes) as u64,
     }
-    true
 }
 
 // The first eight bytes, at the front of the buffer.
-pub(crate) fn write_first_eight(version: u64, kind: u64, count: usize, buffer: &mut [u8])
-    requires { (kind ≤ 1) × (8 ≤ length buffer.old) }
-    ensures { buffer.new ≡ written (first_eight version kind count) buffer.old }
+pub(crate) fn write_first_eight(version: u8, kind: Kind, count: usize, buffer: &mut [u8])
+    requires { 8 ≤ length buffer.old }
+    ensures { buffer.new ≡ written (first_eight version (number_of_kind kind) count) buffer.old }
 {
-    buffer[0] = 80;
-    buffer[1] = 72;
-    buffer[2] = 82;
-    buffer[3] = (version % 256) as u8;
-    buffer[4] = (version / 256 % 256) as u8;
-    buffer[5] = (kind % 256) as u8;
-    buffer[6] = (count % 256) as u8;
-    buffer[7] = (count / 256 % 256) as u8;
-}
-
-// A byte as a word.
-pub(crate) fn word(b: u8) -> u64
-    ensures { (result ≡ b) × (result < 256) }
-{
-    b as u64
+    let kind = u64::from(kind) as u8;
+    let low = (count % 256) as u8;
+    let high = (count / 256 % 256) as u8;
+    buffer[..8].copy_from_slice(&[b'P', b'H', b'R', version, 0, kind, low, high]);
 }

@@ -1,11 +1,10 @@
 -- An answer's dot by its case, a type's alpha, and bars by alpha, as C has them.
-use mathlib.Core.Path.{◌≡◌, refl, sym, ap, ◌∙◌}
-use Prim.Native.Nat.{ℕ, zero, suc, ◌-◌, ◌^◌}
+use mathlib.Core.Path.{◌≡◌, refl, sym, ap}
+use Prim.Native.Nat.{ℕ, zero, suc}
 use native.Mathlib.Omega.{arith}
 use lib.IntN.{ℤ, pos, negsuc}
 use mir.Syntax.{w64}
-use mir.Val.{SFits, to_z, of_z}
-use mir.ValLaws.{to_z-of_z}
+use mir.Val.{SFits}
 use Rattle.plot.specs.Dots.{dot_value}
 use Rattle.noise.specs.Noise.{alpha_of}
 use Rattle.noise.specs.Bars.{bars_answer}
@@ -33,28 +32,6 @@ alpha_fits WhiteFrequency = record { sfits = omega arith }
 alpha_fits FlickerFrequency = record { sfits = omega arith }
 alpha_fits RandomWalkFrequency = record { sfits = omega arith }
 
-module _ (r : ℕ) (alpha : ℤ) (m : ℕ) where
-  -- bars by an alpha whose bits are known
-  pub alpha_known : (bits : ℕ) → SFits w64 alpha → of_z w64 alpha ≡ bits → bars_by_alpha r alpha m ≡ bars_by_alpha r (to_z w64 bits) m
-  alpha_known bits fits e = ap (λ (a : ℤ). bars_by_alpha r a m) (sym (to_z-of_z w64 alpha fits) ∙ ap (to_z w64) e)
-
--- an alpha that is none of the five
-pub no_alpha : (r : ℕ) (alpha : ℤ) (m : ℕ) →
-    (of_z w64 alpha ≡ 2 → ⊥) →
-    (of_z w64 alpha ≡ 1 → ⊥) →
-    (of_z w64 alpha ≡ 0 → ⊥) →
-    (of_z w64 alpha ≡ 2 ^ 64 - 1 → ⊥) →
-    (of_z w64 alpha ≡ 2 ^ 64 - 2 → ⊥) →
-    bars_by_alpha r alpha m ≡ no_such_type
-unfolding bars_by_alpha
-no_alpha r (pos zero) m two one nought minus_one minus-two = absurd (nought refl)
-no_alpha r (pos (suc zero)) m two one nought minus_one minus-two = absurd (one refl)
-no_alpha r (pos (suc (suc zero))) m two one nought minus_one minus-two = absurd (two refl)
-no_alpha r (pos (suc (suc (suc n)))) m two one nought minus_one minus-two = refl
-no_alpha r (negsuc zero) m two one nought minus_one minus-two = absurd (minus_one refl)
-no_alpha r (negsuc (suc zero)) m two one nought minus_one minus-two = absurd (minus-two refl)
-no_alpha r (negsuc (suc (suc n))) m two one nought minus_one minus-two = refl
-
 -- ---- bars by alpha are bars by type
 
 -- the alpha of a type stands for it
@@ -66,14 +43,19 @@ type_by_alpha r WhiteFrequency m = refl
 type_by_alpha r FlickerFrequency m = refl
 type_by_alpha r RandomWalkFrequency m = refl
 
--- an alpha that no type has is refused 3 at place 0
+-- an alpha that no type has is told so
+pub no_alpha : (r : ℕ) (alpha : ℤ) (m : ℕ) → ((t : Noise) → alpha ≡ alpha_of t → ⊥) → bars_by_alpha r alpha m ≡ no_such_type
+unfolding bars_by_alpha alpha_of
+no_alpha r (pos zero) m none = absurd (none WhiteFrequency refl)
+no_alpha r (pos (suc zero)) m none = absurd (none FlickerPhase refl)
+no_alpha r (pos (suc (suc zero))) m none = absurd (none WhitePhase refl)
+no_alpha r (pos (suc (suc (suc n)))) m none = refl
+no_alpha r (negsuc zero) m none = absurd (none FlickerFrequency refl)
+no_alpha r (negsuc (suc zero)) m none = absurd (none RandomWalkFrequency refl)
+no_alpha r (negsuc (suc (suc n))) m none = refl
+
+-- which is refused 3 at place 0
 pub alpha_of_none : (r : ℕ) (alpha : ℤ) (m : ℕ) → ((t : Noise) → alpha ≡ alpha_of t → ⊥) →
     ((bars_by_alpha r alpha m).number ≡ 3) × ((bars_by_alpha r alpha m).place ≡ 0)
-unfolding bars_by_alpha no_such_type alpha_of
-alpha_of_none r (pos zero) m none = absurd (none WhiteFrequency refl)
-alpha_of_none r (pos (suc zero)) m none = absurd (none FlickerPhase refl)
-alpha_of_none r (pos (suc (suc zero))) m none = absurd (none WhitePhase refl)
-alpha_of_none r (pos (suc (suc (suc n)))) m none = (refl, refl)
-alpha_of_none r (negsuc zero) m none = absurd (none FlickerFrequency refl)
-alpha_of_none r (negsuc (suc zero)) m none = absurd (none RandomWalkFrequency refl)
-alpha_of_none r (negsuc (suc (suc n))) m none = (refl, refl)
+unfolding no_such_type
+alpha_of_none r alpha m none = rw (no_alpha r alpha m none) (refl, refl)

@@ -4,13 +4,15 @@ ghost use Rattle.wide.specs.Wide.{value};
 ghost use Rattle.plot.specs.Drawn.{drawn_answer};
 ghost use Rattle.variances.specs.Answers.{allan_deviation_answer, time_deviation_answer};
 ghost use Rattle.plot.specs.Dots.{dot_answer};
-ghost use Rattle.noise.specs.Noise.{alpha_of, type_answer, record_type_answer};
-ghost use Rattle.ploegelster.specs.Boundary.{told_dot, told_noise, no_such_type, bars_by_alpha};
+ghost use Rattle.noise.specs.Noise.{type_answer, record_type_answer};
+ghost use Rattle.noise.specs.Told.{noise_told};
+ghost use Rattle.ploegelster.specs.Boundary.{told_dot, told_noise, bars_by_alpha};
 
-use noise::bars::{Bar, BarsAnswer};
-use noise::{Noise, NoiseAnswer};
+use noise::Noise;
+use noise::bars::BarsAnswer;
 use plot::dots::{Dot, DotAnswer};
 use plot::drawn::DrawnAnswer;
+use record::{Ground, Refused};
 use wide::Wide;
 
 // A dot as a kind, 0 nought, 1 drawn or 2 too few, and a double.
@@ -45,7 +47,7 @@ pub extern "C" fn plg_drawn_number(r: u64) -> DrawnAnswer
 pub extern "C" fn plg_allan_dot(sum: Wide, m: u64, count: u64) -> ToldDot
     ensures { result ≡ told_dot (dot_answer (allan_deviation_answer (value sum) m count)) }
 {
-    told_dot(plot::dots::allan_dot(sum, m, count))
+    ToldDot::from(plot::dots::allan_dot(sum, m, count))
 }
 
 // The dot of a time deviation.
@@ -53,7 +55,7 @@ pub extern "C" fn plg_allan_dot(sum: Wide, m: u64, count: u64) -> ToldDot
 pub extern "C" fn plg_time_dot(sum: Wide, m: u64, count: u64) -> ToldDot
     ensures { result ≡ told_dot (dot_answer (time_deviation_answer (value sum) m count)) }
 {
-    told_dot(plot::dots::time_dot(sum, m, count))
+    ToldDot::from(plot::dots::time_dot(sum, m, count))
 }
 
 // The noise type by the time deviations at m and 2m.
@@ -61,7 +63,7 @@ pub extern "C" fn plg_time_dot(sum: Wide, m: u64, count: u64) -> ToldDot
 pub extern "C" fn plg_noise_type(r1: u64, r2: u64) -> ToldNoise
     ensures { result ≡ told_noise (type_answer r1 r2) }
 {
-    told_noise(noise::noise_type(r1, r2))
+    ToldNoise::from(noise::by_deviations(r1, r2))
 }
 
 // The noise type of a record at factor m.
@@ -69,7 +71,7 @@ pub extern "C" fn plg_noise_type(r1: u64, r2: u64) -> ToldNoise
 pub extern "C" fn plg_noise_of_record(samples: &[i64], m: u64) -> ToldNoise
     ensures { result ≡ told_noise (record_type_answer m samples.now) }
 {
-    told_noise(noise::noise_of_record(samples, m))
+    ToldNoise::from(noise::of_record(samples, m))
 }
 
 // The bars of deviation r with noise of type alpha over M intervals. Refuses 3 for any other alpha, then as bars do.
@@ -77,97 +79,58 @@ pub extern "C" fn plg_noise_of_record(samples: &[i64], m: u64) -> ToldNoise
 pub extern "C" fn plg_bars(r: u64, alpha: i64, intervals: u64) -> BarsAnswer
     ensures { result ≡ bars_by_alpha r alpha intervals }
 {
-    if alpha == 2 {
-        return noise::bars::bars(r, Noise::WhitePhase, intervals);
-    }
-    if alpha == 1 {
-        return noise::bars::bars(r, Noise::FlickerPhase, intervals);
-    }
-    if alpha == 0 {
-        return noise::bars::bars(r, Noise::WhiteFrequency, intervals);
-    }
-    if alpha == -1 {
-        return noise::bars::bars(r, Noise::FlickerFrequency, intervals);
-    }
-    if alpha == -2 {
-        return noise::bars::bars(r, Noise::RandomWalkFrequency, intervals);
-    }
-    no_such_type()
-}
-
-// Noughts beside 3 at place 0.
-fn no_such_type() -> BarsAnswer
-    ensures { result ≡ no_such_type }
-{
-    BarsAnswer {
-        number: record::OUT_OF_RANGE,
-        place: 0,
-        bar: Bar {
-            low: 0.0,
-            mid: 0.0,
-            high: 0.0,
-        },
+    match Noise::try_from(alpha) {
+        Ok(noise) => noise::bars::bars(r, noise, intervals),
+        Err(_) => BarsAnswer::from(Err(Ground::OutOfRange.at(0))),
     }
 }
 
 // A dot's kind and value beside its answer's number and place.
-fn told_dot(answer: DotAnswer) -> ToldDot
-    ensures { result ≡ told_dot answer }
-{
-    let number = answer.number;
-    let place = answer.place;
-    let dot = answer.dot;
-    match dot {
-        Dot::Drawn(value) => ToldDot {
-            number,
-            place,
-            kind: 1,
-            value,
-        },
-        Dot::Nought => ToldDot {
-            number,
-            place,
-            kind: 0,
-            value: 0.0,
-        },
-        Dot::TooFew => ToldDot {
-            number,
-            place,
-            kind: 2,
-            value: 0.0,
-        },
+impl From<DotAnswer> for ToldDot {
+    ghost from_gives = { λ answer told. told ≡ told_dot answer };
+
+    fn from(answer: DotAnswer) -> ToldDot {
+        let number = answer.number;
+        let place = answer.place;
+        match answer.dot {
+            Dot::Drawn(value) => ToldDot {
+                number,
+                place,
+                kind: 1,
+                value,
+            },
+            Dot::Nought => ToldDot {
+                number,
+                place,
+                kind: 0,
+                value: 0.0,
+            },
+            Dot::TooFew => ToldDot {
+                number,
+                place,
+                kind: 2,
+                value: 0.0,
+            },
+        }
     }
 }
 
 // A type's alpha; nought beside a refusal.
-fn told_noise(answer: NoiseAnswer) -> ToldNoise
-    ensures { result ≡ told_noise answer }
-{
-    let number = answer.number;
-    if number != 0 {
-        return ToldNoise {
-            number,
-            place: answer.place,
-            alpha: 0,
-        };
-    }
-    let noise = answer.noise;
-    ToldNoise {
-        number,
-        place: answer.place,
-        alpha: alpha_of(noise),
-    }
-}
+impl From<Result<Noise, Refused>> for ToldNoise {
+    ghost from_gives = { λ found told. told ≡ told_noise (noise_told found) };
 
-// Alpha by type.
-fn alpha_of(noise: Noise) -> i64
-    ensures { result ≡ alpha_of noise }
-{
-    match noise {
-        Noise::WhitePhase => 2,
-        Noise::FlickerPhase => 1,
-        Noise::WhiteFrequency => 0,
-        Noise::FlickerFrequency => -1,
-        Noise::RandomWalkFrequency => -2,
+    fn from(found: Result<Noise, Refused>) -> ToldNoise {
+        match found {
+            Ok(noise) => ToldNoise {
+                number: 0,
+                place: 0,
+                alpha: noise.into(),
+            },
+            Err(refused) => ToldNoise {
+                number: refused.why.into(),
+                place: refused.place,
+                alpha: 0,
+            },
+        }
     }
 }

@@ -1,11 +1,15 @@
 // Plot dots: a drawn number, or nought, or too few.
-ghost use Rattle.std.specs.Prelude.{◌≡◌, ◌^◌, ◌≤◌};
+ghost use Rattle.std.specs.Prelude.{◌≡◌, Ok, Err, ◌^◌, ◌≤◌};
 ghost use Rattle.wide.specs.Wide.{value};
 ghost use Rattle.variances.specs.Answers.{allan_deviation_answer, time_deviation_answer};
+ghost use Rattle.variances.specs.Told.{deviation_told};
 ghost use Rattle.plot.specs.Dots.{dot_answer};
+ghost use Rattle.plot.specs.Told.{dot_told};
 
 use crate::drawn::draw;
-use variances::DeviationAnswer;
+use record::{Ground, Refused};
+use sums::Sum;
+use variances::deviations;
 use wide::Wide;
 
 // What stands at a place of the plot.
@@ -16,7 +20,7 @@ pub enum Dot {
     TooFew,
 }
 
-// A dot; beside a refusal it is nought.
+// A dot with the number and the place of its refusal; beside a refusal it is nought.
 #[derive(Clone, Copy)]
 pub struct DotAnswer {
     pub number: u64,
@@ -25,49 +29,80 @@ pub struct DotAnswer {
 }
 
 // The dot of an Allan deviation. Refuses 5, 2, 3; a count of 0 is too few.
-pub fn allan_dot(sum: Wide, m: u64, count: u64) -> DotAnswer
-    ensures { result ≡ dot_answer (allan_deviation_answer (value sum) m count) }
+pub fn dot_of_allan(sum: Sum, m: u64) -> Result<Dot, Refused>
+    ensures { dot_told result ≡ dot_answer (allan_deviation_answer (value sum.total) m sum.count) }
 {
-    dot_of(variances::allan_deviation(sum, m, count))
+    dot_of(deviations::allan_root(sum, m))
 }
 
 // The dot of a time deviation. Refuses 5, 2, 3; a count of 0 is too few.
+pub fn dot_of_time(sum: Sum, m: u64) -> Result<Dot, Refused>
+    ensures { dot_told result ≡ dot_answer (time_deviation_answer (value sum.total) m sum.count) }
+{
+    dot_of(deviations::time_root(sum, m))
+}
+
+// The dot of an Allan deviation with its number and place.
+pub fn allan_dot(sum: Wide, m: u64, count: u64) -> DotAnswer
+    ensures { result ≡ dot_answer (allan_deviation_answer (value sum) m count) }
+{
+    DotAnswer::from(dot_of_allan(Sum { total: sum, count }, m))
+}
+
+// The dot of a time deviation with its number and place.
 pub fn time_dot(sum: Wide, m: u64, count: u64) -> DotAnswer
     ensures { result ≡ dot_answer (time_deviation_answer (value sum) m count) }
 {
-    dot_of(variances::time_deviation(sum, m, count))
+    DotAnswer::from(dot_of_time(Sum { total: sum, count }, m))
 }
 
-// The dot of a deviation's answer.
-fn dot_of(answer: DeviationAnswer) -> DotAnswer
-    requires { answer.deviation ≤ 2 ^ 62 }
-    ensures { result ≡ dot_answer answer }
-{
-    let number = answer.number;
-    let r = answer.deviation;
-    if number == 0 {
-        if r == 0 {
-            return answered(Dot::Nought);
+impl From<Result<Dot, Refused>> for DotAnswer {
+    ghost from_gives = { λ dot answer. answer ≡ dot_told dot };
+
+    fn from(dot: Result<Dot, Refused>) -> DotAnswer {
+        match dot {
+            Ok(dot) => DotAnswer {
+                number: 0,
+                place: 0,
+                dot,
+            },
+            Err(refused) => DotAnswer {
+                number: refused.why.into(),
+                place: refused.place,
+                dot: Dot::Nought,
+            },
         }
-        return answered(Dot::Drawn(draw(r)));
-    }
-    if number == record::TOO_FEW {
-        return answered(Dot::TooFew);
-    }
-    DotAnswer {
-        number,
-        place: answer.place,
-        dot: Dot::Nought,
     }
 }
 
-// A dot that is no refusal.
-fn answered(dot: Dot) -> DotAnswer
-    ensures { result ≡ record { number = 0; place = 0; dot = dot } }
+// The dot of a deviation.
+fn dot_of(deviation: Result<u64, Refused>) -> Result<Dot, Refused>
+    requires { (deviation_told deviation).deviation ≤ 2 ^ 62 }
+    ensures { dot_told result ≡ dot_answer (deviation_told deviation) }
 {
-    DotAnswer {
-        number: 0,
-        place: 0,
-        dot,
+    match deviation {
+        Ok(r) => Ok(of_units(r)),
+        Err(refused) => too_few_or(refused),
+    }
+}
+
+// The dot of so many units: a deviation of nought has its own.
+fn of_units(r: u64) -> Dot
+    requires { r ≤ 2 ^ 62 }
+    ensures { dot_told (Ok result) ≡ dot_answer (deviation_told (Ok r)) }
+{
+    if r == 0 {
+        return Dot::Nought;
+    }
+    Dot::Drawn(draw(r))
+}
+
+// Too few samples are a dot of their own; any other refusal stands.
+fn too_few_or(refused: Refused) -> Result<Dot, Refused>
+    ensures { dot_told result ≡ dot_answer (deviation_told (Err refused)) }
+{
+    match refused.why {
+        Ground::TooFew => Ok(Dot::TooFew),
+        _ => Err(refused),
     }
 }

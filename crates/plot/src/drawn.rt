@@ -1,9 +1,12 @@
 // Drawn numbers: doubles built from the top 53 bits of a whole number.
 ghost use Rattle.std.specs.Prelude.{◌≡◌, ◌-◌, ◌*◌, ◌/◌, ◌^◌, ◌≤◌};
 ghost use Rattle.std.specs.Float.Ieee.{size};
-ghost use Rattle.plot.specs.Drawn.{plus_zero, drawn_number, drawn_answer};
+ghost use Rattle.plot.specs.Drawn.{drawn_number, drawn_answer};
+ghost use Rattle.plot.specs.Told.{drawn_told};
 
-// A double.
+use record::{Ground, Refused};
+
+// A double as C is told it; plus zero beside a refusal.
 #[repr(C)]
 #[derive(Clone, Copy)]
 pub struct DrawnAnswer {
@@ -13,19 +16,38 @@ pub struct DrawnAnswer {
 }
 
 // The greatest double not above r / 2^20, for r from 1 to 2^63. Refuses 3.
+pub fn number(r: u64) -> Result<f64, Refused>
+    ensures { drawn_told result ≡ drawn_answer r }
+{
+    if r < 1 || 9223372036854775808 < r {
+        return Err(Ground::OutOfRange.at(0));
+    }
+    Ok(draw(r))
+}
+
+// The same as C is told it.
 pub fn drawn_number(r: u64) -> DrawnAnswer
     ensures { result ≡ drawn_answer r }
 {
-    if r < 1 {
-        return refused();
-    }
-    if 9223372036854775808 < r {
-        return refused();
-    }
-    DrawnAnswer {
-        number: 0,
-        place: 0,
-        value: draw(r),
+    DrawnAnswer::from(number(r))
+}
+
+impl From<Result<f64, Refused>> for DrawnAnswer {
+    ghost from_gives = { λ drawn answer. answer ≡ drawn_told drawn };
+
+    fn from(drawn: Result<f64, Refused>) -> DrawnAnswer {
+        match drawn {
+            Ok(value) => DrawnAnswer {
+                number: 0,
+                place: 0,
+                value,
+            },
+            Err(refused) => DrawnAnswer {
+                number: refused.why.into(),
+                place: refused.place,
+                value: 0.0,
+            },
+        }
     }
 }
 
@@ -41,21 +63,10 @@ pub(crate) fn draw(r: u64) -> f64
 fn top_digits(r: u64) -> u64
     ensures { result ≡ r / 2 ^ (size r - 53) * 2 ^ (size r - 53) }
 {
-    let zeros = u64::leading_zeros(r);
+    let zeros = r.leading_zeros();
     if zeros < 11 {
         let dropped = 11 - zeros;
         return (r >> dropped) << dropped;
     }
     r
-}
-
-// A number out of range, with plus zero.
-fn refused() -> DrawnAnswer
-    ensures { result ≡ record { number = 3; place = 0; value = plus_zero } }
-{
-    DrawnAnswer {
-        number: record::OUT_OF_RANGE,
-        place: 0,
-        value: 0.0,
-    }
 }

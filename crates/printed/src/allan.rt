@@ -1,8 +1,12 @@
 // The worked example of section IV: eight frequency values of one second each, in units of 10^-7, and their Allan variance.
-use crate::print::{hundredths, number, refusal, tenths, text, verdict};
+use crate::print::{Decimals, Verdict};
 use crate::rounding::rounded;
+use shown::Refusal;
+use std::io;
 use std::io::Stdout;
-use wide::Wide;
+use sums::Sum;
+use variances::fractions::Fraction;
+use variances::{deviations, fractions};
 
 // The data values: 4.36, 4.61 and so on, times 10^-5.
 const VALUES: [i64; 8] = [436, 461, 319, 421, 447, 396, 410, 308];
@@ -16,131 +20,100 @@ const COUNT: u64 = 7;
 const VARIANCE: u64 = 32;
 // The deviation as it is printed, in tenths of 10^-6.
 const DEVIATION: u64 = 56;
+// So many units of a deviation are one: 2^20.
+const UNITS: u64 = 1048576;
 
-pub(crate) fn figures(out: Stdout) {
-    let values = VALUES;
+// The lines of the example.
+pub(crate) fn figures(out: Stdout) -> io::Result<()> {
     let mut phases = [0i64; 9];
-    let answer = frequency::phase_from_frequency(&values, &mut phases);
-    if answer.number != 0 {
-        text(out, b"phases ");
-        refusal(out, answer.number, answer.place);
-        return;
+    match frequency::phases(0, &VALUES, &mut phases) {
+        Ok(_) => of_phases(out, &phases),
+        Err(refused) => println!(out; "phases {}", Refusal(refused)),
     }
-    squares(out, &phases);
-    whole(out, &phases);
+}
+
+// The lines of the phases.
+fn of_phases(out: Stdout, phases: &[i64]) -> io::Result<()> {
+    squares(out, phases)?;
+    match sums::allan(phases, 1) {
+        Ok(sum) => whole(out, sum),
+        Err(refused) => println!(out; "Allan sum {}", Refusal(refused)),
+    }
 }
 
 // The squares one by one: each is the Allan sum of three phases.
-fn squares(out: Stdout, phases: &[i64; 9]) {
-    for i in 0..7 {
-        let x = [phases[i], phases[i + 1], phases[i + 2]];
-        square(out, x, SQUARES[i]);
+fn squares(out: Stdout, phases: &[i64]) -> io::Result<()> {
+    for (three, printed) in phases.windows(3).zip(SQUARES) {
+        square(out, three, printed)?;
     }
+    Ok(())
 }
 
 // One line: a first difference squared.
-fn square(out: Stdout, x: [i64; 3], printed: u64) {
-    let answer = sums::allan_sum(&x, 1);
-    if answer.number != 0 {
-        text(out, b"first difference squared ");
-        refusal(out, answer.number, answer.place);
-        return;
+fn square(out: Stdout, three: &[i64], printed: u64) -> io::Result<()> {
+    let name = "first difference squared";
+    match sums::allan(three, 1) {
+        Ok(sum) => rounded_sum(out, name, sum.total.lo, printed),
+        Err(refused) => println!(out; "{name} {}", Refusal(refused)),
     }
-    let square = answer.sum.lo;
-    let ours = rounded(square, 100);
-    text(out, b"first difference squared ");
-    number(out, square);
-    text(out, b" in 10^-14, rounded ");
-    hundredths(out, ours);
-    text(out, b"e-10, printed ");
-    hundredths(out, printed);
-    text(out, b"e-10");
-    verdict(out, ours, printed);
 }
 
 // The sum of the squares, their count, the variance and the deviation.
-fn whole(out: Stdout, phases: &[i64; 9]) {
-    let samples: &[i64] = phases;
-    let answer = sums::allan_sum(samples, 1);
-    if answer.number != 0 {
-        text(out, b"Allan sum ");
-        refusal(out, answer.number, answer.place);
-        return;
+fn whole(out: Stdout, sum: Sum) -> io::Result<()> {
+    let count = sum.count;
+    rounded_sum(out, "sum", sum.total.lo, SUM)?;
+    println!(out;
+        "count {count}, printed {COUNT}: {}",
+        Verdict::of(count, COUNT)
+    )?;
+    match fractions::allan_variance(sum, 1) {
+        Ok(fraction) => variance(out, fraction)?,
+        Err(refused) => println!(out; "variance {}", Refusal(refused))?,
     }
-    let total = answer.sum;
-    sum(out, total.lo);
-    count(out, answer.count);
-    variance(out, total, answer.count);
-    deviation(out, total, answer.count);
-}
-
-// One line: the sum.
-fn sum(out: Stdout, low: u64) {
-    let ours = rounded(low, 100);
-    text(out, b"sum ");
-    number(out, low);
-    text(out, b" in 10^-14, rounded ");
-    hundredths(out, ours);
-    text(out, b"e-10, printed ");
-    hundredths(out, SUM);
-    text(out, b"e-10");
-    verdict(out, ours, SUM);
-}
-
-// One line: the count.
-fn count(out: Stdout, ours: u64) {
-    text(out, b"count ");
-    number(out, ours);
-    text(out, b", printed ");
-    number(out, COUNT);
-    verdict(out, ours, COUNT);
-}
-
-// One line: the variance. A half of a hundred is whole, so that the fraction's whole part is enough to round it.
-fn variance(out: Stdout, total: Wide, count: u64) {
-    let answer = variances::allan_fraction(total, 1, count);
-    let denominator = answer.denominator;
-    if denominator == 0 {
-        text(out, b"variance ");
-        refusal(out, answer.number, answer.place);
-        return;
+    match deviations::allan_root(sum, 1) {
+        Ok(units) => deviation(out, units),
+        Err(refused) => println!(out; "deviation {}", Refusal(refused)),
     }
-    let numerator = answer.numerator.lo;
-    let ours = rounded(numerator / denominator, 100);
-    text(out, b"variance ");
-    number(out, numerator);
-    text(out, b"/");
-    number(out, denominator);
-    text(out, b" in 10^-14, rounded ");
-    tenths(out, ours);
-    text(out, b"e-11, printed ");
-    tenths(out, VARIANCE);
-    text(out, b"e-11");
-    verdict(out, ours, VARIANCE);
+}
+
+// One line: a sum in units of 10^-14, rounded.
+fn rounded_sum(out: Stdout, name: &str, sum: u64, printed: u64) -> io::Result<()> {
+    let ours = rounded(sum, 100);
+    println!(out;
+        "{name} {sum} in 10^-14, rounded {}e-10, printed {}e-10: {}",
+        Decimals::<2>(ours),
+        Decimals::<2>(printed),
+        Verdict::of(ours, printed)
+    )
+}
+
+// One line: the variance. A half of a hundred is whole, so that the fraction's whole part is enough to round it. The denominator is never nought; that
+// is tested, not assumed.
+fn variance(out: Stdout, fraction: Fraction) -> io::Result<()> {
+    let numerator = fraction.numerator.lo;
+    let denominator = fraction.denominator;
+    let whole = numerator.checked_div(denominator).unwrap_or(0);
+    let ours = rounded(whole, 100);
+    println!(out;
+        "variance {numerator}/{denominator} in 10^-14, rounded {}e-11, printed {}e-11: {}",
+        Decimals::<1>(ours),
+        Decimals::<1>(VARIANCE),
+        Verdict::of(ours, VARIANCE)
+    )
 }
 
 // Two lines: the deviation, rounded and cut off. The note cuts off: even the root of its rounded 3.2e-11 is nearer 5.7e-6.
-fn deviation(out: Stdout, total: Wide, count: u64) {
-    let answer = variances::allan_deviation(total, 1, count);
-    if answer.number != 0 {
-        text(out, b"deviation ");
-        refusal(out, answer.number, answer.place);
-        return;
-    }
-    let r = answer.deviation;
-    one_deviation(out, b"rounded ", r, rounded(r, 1048576));
-    one_deviation(out, b"cut off ", r, r / 1048576);
+fn deviation(out: Stdout, units: u64) -> io::Result<()> {
+    one_deviation(out, units, "rounded", rounded(units, UNITS))?;
+    one_deviation(out, units, "cut off", units / UNITS)
 }
 
 // One line: the deviation in fewer digits.
-fn one_deviation(out: Stdout, words: &[u8], r: u64, ours: u64) {
-    text(out, b"deviation ");
-    number(out, r);
-    text(out, b"/1048576 in 10^-7, ");
-    text(out, words);
-    tenths(out, ours);
-    text(out, b"e-6, printed ");
-    tenths(out, DEVIATION);
-    text(out, b"e-6");
-    verdict(out, ours, DEVIATION);
+fn one_deviation(out: Stdout, units: u64, how: &str, ours: u64) -> io::Result<()> {
+    println!(out;
+        "deviation {units}/{UNITS} in 10^-7, {how} {}e-6, printed {}e-6: {}",
+        Decimals::<1>(ours),
+        Decimals::<1>(DEVIATION),
+        Verdict::of(ours, DEVIATION)
+    )
 }

@@ -9,8 +9,16 @@ mod bar;
 mod print;
 mod rounding;
 
+use std::io;
+use std::io::Stdout;
+
+// A write that fails ends the lines and is not told.
 fn main(rt: HostRuntime) {
-    let out = rt.stdout();
-    allan::figures(out);
-    bar::figures(out);
+    let _ = figures(rt.stdout());
+}
+
+// All lines.
+fn figures(out: Stdout) -> io::Result<()> {
+    allan::figures(out)?;
+    bar::figures(out)
 }

@@ -1,49 +1,41 @@
-// Bytes, numbers, decimal fractions and refusals to standard output. A write that fails is not told.
-use std::io::Stdout;
+// How a line shows decimal fractions, and whether two figures agree.
+use std::fmt;
 
-// Bytes as they stand.
-pub(crate) fn text(out: Stdout, bytes: &[u8]) {
-    let _ = out.write_all(bytes);
+// A number of which so many last digits stand behind the point.
+#[derive(Clone, Copy)]
+pub(crate) struct Decimals<const PLACES: u32>(pub(crate) u64);
+
+// Whether the library's figure is the printed one.
+#[derive(Clone, Copy)]
+pub(crate) enum Verdict {
+    Agrees,
+    Differs,
 }
 
-// A number in decimal digits.
-pub(crate) fn number(out: Stdout, n: u64) {
-    let _ = out.print(n);
-}
-
-// A number of tenths.
-pub(crate) fn tenths(out: Stdout, n: u64) {
-    number(out, n / 10);
-    text(out, b".");
-    number(out, n % 10);
-}
-
-// A number of hundredths.
-pub(crate) fn hundredths(out: Stdout, n: u64) {
-    tenths(out, n / 10);
-    number(out, n % 10);
-}
-
-// A number of thousandths.
-pub(crate) fn thousandths(out: Stdout, n: u64) {
-    hundredths(out, n / 10);
-    number(out, n % 10);
-}
-
-// Whether two figures agree, at the line's end.
-pub(crate) fn verdict(out: Stdout, ours: u64, printed: u64) {
-    if ours == printed {
-        text(out, b": agrees\n");
-        return;
+impl Verdict {
+    // The verdict on two figures.
+    pub(crate) fn of(ours: u64, printed: u64) -> Verdict {
+        if ours == printed {
+            Verdict::Agrees
+        } else {
+            Verdict::Differs
+        }
     }
-    text(out, b": differs\n");
 }
 
-// A refusal's number and place, at the line's end.
-pub(crate) fn refusal(out: Stdout, by: u64, place: u64) {
-    text(out, b"refused ");
-    number(out, by);
-    text(out, b" at ");
-    number(out, place);
-    text(out, b"\n");
+impl<const PLACES: u32> fmt::Display for Decimals<PLACES> {
+    fn fmt<W: fmt::Write>(&self, f: &mut fmt::Formatter<W>) -> fmt::Result {
+        let places = PLACES as usize;
+        let one = 10u64.saturating_pow(PLACES);
+        write!(f, "{}.{:0places$}", self.0 / one, self.0 % one)
+    }
+}
+
+impl fmt::Display for Verdict {
+    fn fmt<W: fmt::Write>(&self, f: &mut fmt::Formatter<W>) -> fmt::Result {
+        f.write_str(match self {
+            Verdict::Agrees => "agrees",
+            Verdict::Differs => "differs",
+        })
+    }
 }

@@ -7,8 +7,5 @@ pub(crate) fn rounded(n: u64, d: u64) -> u64
 {
     let whole = n / d;
     let rest = n % d;
-    if rest < d - rest {
-        return whole;
-    }
-    whole + 1
+    if rest < d - rest { whole } else { whole + 1 }
 }

@@ -1,7 +1,7 @@
--- The two cases of an answer to float readings: refused, with the buffer as it came, and given, with the samples at its front.
+-- The two cases of an answer to float readings: refused, and given.
 use mathlib.Core.Path.{◌≡◌, refl, sym, ap, ◌∙◌}
 use mathlib.Core.Bool.{Bool, true, false}
-use mathlib.Core.List.{List, []}
+use mathlib.Core.List.{List}
 use Prim.Native.Nat.{ℕ, ◌*◌, ◌≤◌, ◌<◌}
 use native.Mathlib.Omega.{arith}
 use borrow.Author.Tests.{eq-eqb, ne_eqb, leb-true, leb-false}
@@ -9,9 +9,19 @@ use lib.Dec.{leb}
 use lib.IntN.{ℤ}
 use lib.Ieee.{Float}
 use lib.ListN.{length}
-use Rattle.laws.specs.Lists.{how_many, written}
+use Rattle.laws.specs.Lists.{how_many}
 use Rattle.laws.proofs.Tests.{choice_true, choice_false}
-use Rattle.record.specs.Refusals.{refused, record_refusal}
+use Rattle.std.proofs.Common.{Some, None, Result, Ok, Err}
+use Rattle.std.specs.Result.{result_ok}
+use Rattle.wide.specs.Wide.{halves}
+use Rattle.record.specs.Refusals.{none, refused, record_refusal}
+use Rattle.record.specs.Told.{number_of}
+use Rattle.record.specs.declared.grounds.Refused.{Refused}
+use Rattle.record.proofs.ToldLaws.{answered_not, refuses_nothing}
+use Rattle.sums.specs.Told.{sum_told, part_told}
+use Rattle.sums.specs.declared.Sum.{Sum}
+use Rattle.sums.proofs.Unique.{same_sum}
+use Rattle.readings.specs.Told.{sums_told}
 use Rattle.record.specs.Answers.{buffer_left}
 use Rattle.record.specs.declared.Refusal.{Refusal}
 use Rattle.record.proofs.RefusalLaws.{Sound, too_few, size_refuses}
@@ -29,12 +39,19 @@ use Rattle.readings.proofs.RefusalLaws.{samples_of, samples_length, samples_soun
 abbrev pub as_part : SumAnswer → Part
 as_part a = record { number = a.number; sum = a.sum; count = a.count }
 
-abbrev pub no_sums : Refusal → FloatSums
-no_sums r = record { number = r.number; place = r.place; allan = no_part; modified = no_part; changed = 0 }
-
 -- the lent buffer as it is left
 abbrev pub float_buffer : ℕ → List Float → List ℤ → List ℤ
 float_buffer m xs buffer = buffer_left (float_refusal m xs (length buffer)) (samples_of xs) buffer
+
+-- the Allan sum of the samples
+abbrev pub allan_of : ℕ → List Float → Sum
+allan_of m xs = record { total = halves (allan_sum m (samples_of xs)); count = allan_count m (samples_of xs) }
+
+-- a part that is refused is not due
+not_due : (e : Refused) (due : Bool) (b count : ℕ) → as_part (sum_told (Err e)) ≡ part_of due b count → part_told None ≡ part_of due b count
+unfolding part_of
+not_due e true b count told = absurd (answered_not e (ap (λ (p : Part). p.number) told))
+not_due e false b count told = refl
 
 module _ (m : ℕ) (xs : List Float) (room : ℕ) where
   -- ---- the parts of an answer that is not refused
@@ -42,10 +59,6 @@ module _ (m : ℕ) (xs : List Float) (room : ℕ) where
   module _ (unrefused : (float_refusal m xs room).number ≡ 0) where
     abbrev sound : Sound allan_demand m (samples_of xs)
     sound = samples_sound m xs room unrefused
-
-    pub allan_part : as_part (allan_sum_answer m (samples_of xs)) ≡ part_of true (allan_sum m (samples_of xs)) (allan_count m (samples_of xs))
-    unfolding part_of
-    allan_part = ap as_part (allan_sum_given m (samples_of xs) sound)
 
     -- 3m samples or more: the modified sum is due too
     modified_sound : 3 * m ≤ length xs → Sound modified_demand m (samples_of xs)
@@ -77,29 +90,46 @@ module _ (m : ℕ) (xs : List Float) (room : ℕ) where
 
   -- ---- the answer and the buffer
 
+  pub sums_error : (e : Refused) → refused (number_of e.why) e.place ≡ float_refusal m xs room → sums_told (Err e) ≡ float_answer m xs room
+  unfolding float_answer
+  sums_error e is = rw (← is) (sym (choice_false _ _ (ne_eqb (number_of e.why) 0 (answered_not e))))
+
+  module _ (nothing : none ≡ float_refusal m xs room) where
+    abbrev unrefused_lem : (float_refusal m xs room).number ≡ 0
+    unrefused_lem = refuses_nothing nothing
+
+    -- the Allan sum of the samples is not refused
+    pub allan_given : {x : Result Sum Refused} {samples : List ℤ} → samples ≡ samples_of xs → sum_told x ≡ allan_sum_answer m samples → x ≡ Ok (allan_of m xs)
+    allan_given {x} whole is =
+        same_sum x (Ok (allan_of m xs)) (is ∙ ap (allan_sum_answer m) whole ∙ allan_sum_given m (samples_of xs) (sound unrefused_lem))
+
+    -- nor is the modified one but by 1, where it is not due
+    pub modified_given : (x : Result Sum Refused) {samples : List ℤ} → samples ≡ samples_of xs → sum_told x ≡ modified_sum_answer m samples →
+        part_told (result_ok x) ≡ part_of (leb (3 * m) (length xs)) (modified_sum m (samples_of xs)) (modified_count m (samples_of xs))
+    modified_given x whole is = by_result x (ap as_part (is ∙ ap (modified_sum_answer m) whole) ∙ modified_part unrefused_lem)
+      where
+        by_result : (x : Result Sum Refused) → as_part (sum_told x) ≡ part_of (leb (3 * m) (length xs)) (modified_sum m (samples_of xs)) (modified_count m (samples_of xs)) →
+            part_told (result_ok x) ≡ part_of (leb (3 * m) (length xs)) (modified_sum m (samples_of xs)) (modified_count m (samples_of xs))
+        by_result (Ok s) told = told
+        by_result (Err e) told = not_due e _ _ _ told
+
+    pub sums_given : {allan : Sum} {modified : Part} {changed : ℕ} → allan ≡ allan_of m xs →
+        modified ≡ part_of (leb (3 * m) (length xs)) (modified_sum m (samples_of xs)) (modified_count m (samples_of xs)) → changed ≡ how_many has_fraction xs →
+        record { number = 0; place = 0; allan = part_told (Some allan); modified = modified; changed = changed } ≡ float_answer m xs room
+    unfolding float_answer part_of
+    sums_given allan-is modified-is changed-is =
+        (λ i. record { number = 0; place = 0; allan = part_told (Some (allan-is i)); modified = modified-is i; changed = changed-is i })
+        ∙ sym (choice_true _ _ (eq-eqb (float_refusal m xs room).number 0 unrefused_lem))
+
+-- ---- an answer that is refused, in numbers, and the buffer with it
+
+abbrev pub no_sums : Refusal → FloatSums
+no_sums r = record { number = r.number; place = r.place; allan = no_part; modified = no_part; changed = 0 }
+
+module _ (m : ℕ) (xs : List Float) (room : ℕ) where
   pub call_refused : {refusal : Refusal} {answer : FloatSums} (buffer : List ℤ) → refusal ≡ float_refusal m xs room → (refusal.number ≡ 0 → ⊥) →
       answer ≡ no_sums refusal → (answer ≡ float_answer m xs room) × (buffer ≡ buffer_left (float_refusal m xs room) (samples_of xs) buffer)
   unfolding float_answer buffer_left
   call_refused buffer is some noughts =
       let numbered = ne_eqb (float_refusal m xs room).number 0 (rw is at some) in
       (noughts ∙ ap no_sums is ∙ sym (choice_false _ _ numbered), sym (choice_false _ _ numbered))
-
-  -- the same, what is returned and what is left in the buffer each by itself
-  pub value_refused : {refusal : Refusal} {answer : FloatSums} → refusal ≡ float_refusal m xs room → (refusal.number ≡ 0 → ⊥) → answer ≡ no_sums refusal → answer ≡ float_answer m xs room
-  value_refused is some noughts = (call_refused [] is some noughts).0
-
-  pub left_refused : {refusal : Refusal} (buffer : List ℤ) → refusal ≡ float_refusal m xs room → (refusal.number ≡ 0 → ⊥) →
-      buffer ≡ buffer_left (float_refusal m xs room) (samples_of xs) buffer
-  left_refused {refusal} buffer is some = (call_refused {refusal = refusal} buffer is some refl).1
-
-  pub call_answered : {refusal : Refusal} {a b : Part} {n : ℕ} {samples left : List ℤ} (before : List ℤ) → refusal ≡ float_refusal m xs room → refusal.number ≡ 0 →
-      samples ≡ samples_of xs → a ≡ as_part (allan_sum_answer m samples) → b ≡ as_part (modified_sum_answer m samples) → n ≡ how_many has_fraction xs →
-      left ≡ written (samples_of xs) before →
-      (record { number = 0; place = 0; allan = a; modified = b; changed = n } ≡ float_answer m xs room) × (left ≡ buffer_left (float_refusal m xs room) (samples_of xs) before)
-  unfolding float_answer buffer_left
-  call_answered before is nothing whole allan modified changed front =
-      let unrefused : (float_refusal m xs room).number ≡ 0 = rw is at nothing in
-      let numbered = eq-eqb (float_refusal m xs room).number 0 unrefused in
-      let allan-is = allan ∙ ap (λ (s : List ℤ). as_part (allan_sum_answer m s)) whole ∙ allan_part unrefused in
-      let modified-is = modified ∙ ap (λ (s : List ℤ). as_part (modified_sum_answer m s)) whole ∙ modified_part unrefused in
-      ((λ i. record { number = 0; place = 0; allan = allan-is i; modified = modified-is i; changed = changed i }) ∙ sym (choice_true _ _ numbered), front ∙ sym (choice_true _ _ numbered))

@@ -8,13 +8,12 @@ use native.Mathlib.Omega.{arith}
 use borrow.Author.Tests.{ltb-true, ltb-false, lt-ltb, le-ltb, eq-eqb, eqb-true, not-false}
 use lib.Dec.{T, ltb, eqb}
 use lib.IntN.{ℤ, pos, nat_abs}
-use lib.Ieee.{Float, nan, inf, fin, binary64, up, down, of_bits, is_nan, ne}
-use lib.Ieee.Compare.{differs_from_itself}
+use lib.Ieee.{Float, nan, inf, fin, binary64, up, down, of_bits, is_nan}
 use lib.Ieee.Fits.{down_pos}
 use lib.Ieee.Exact.{HasValue}
 use lib.Ieee.Nearest.{closest, closest_mono, closest_same}
 use Rattle.laws.specs.Nearest.{with_sign}
-use Rattle.laws.proofs.Tests.{choice_true, choice_false, true_holds, tests_agree}
+use Rattle.laws.proofs.Tests.{choice_true, choice_false, tests_agree}
 use Rattle.laws.proofs.Rounding.{closest_whole, with_sign_size, closest_is_nearest, nearest_is_closest}
 use Rattle.readings.specs.Readings.{reading_number, sample_of, has_fraction, Nearest, Exactly}
 
@@ -99,15 +98,15 @@ module _ (s : Bool) (a c : ℕ) (some : 0 < c) where
 
 -- ---- a reading that becomes a sample
 
--- only what is not a number differs from itself
-pub differing_is_four : (x : Float) → ne x x ≡ true → reading_number x ≡ 4
-differing_is_four x t = ap reading_number (differs_from_itself x (true_holds t)) ∙ not_a_number_is_four
+-- what tests as not a number is 4, and anything else is a number
+pub nan_is_four : (x : Float) → is_nan x ≡ true → reading_number x ≡ 4
+unfolding is_nan
+nan_is_four nan t = not_a_number_is_four
+nan_is_four (inf s) t = absurd (true≢false (sym t))
+nan_is_four (fin s m e) t = absurd (true≢false (sym t))
 
-pub same_is_number : (x : Float) → ne x x ≡ false → T (not (is_nan x))
-unfolding ne is_nan
-same_is_number nan t = absurd (true≢false t)
-same_is_number (inf s) t = tt
-same_is_number (fin s m e) t = tt
+pub not_nan_is_number : (x : Float) → is_nan x ≡ false → T (not (is_nan x))
+not_nan_is_number x t = rw t tt
 
 pub sample_is_number : (x : Float) → reading_number x ≡ 0 → T (not (is_nan x))
 unfolding is_nan reading_number

@@ -8,7 +8,7 @@ use borrow.Author.Tests.{ltb-true, ltb-false, lt-ltb, le-ltb, eq-eqb, eqb-true}
 use lib.Dec.{ltb, eqb}
 use lib.IntN.{ℤ, pos}
 use lib.Ieee.{Float, nan}
-use lib.ListN.{length, take, drop, get_or, set, length-append, length-map, get_or-map}
+use lib.ListN.{length, take, get_or, set, length-map, get_or-map}
 use lib.Seq.{take_at}
 use mir.Syntax.{w64}
 use mir.Val.{to_z, of_z}
@@ -18,6 +18,7 @@ use Rattle.laws.proofs.Parts.{small_fits}
 use Rattle.laws.proofs.Machine.{read_back}
 use Rattle.record.specs.Refusals.{none, refused, refused_if, ◌then◌, in_range, size_refusal}
 use Rattle.record.specs.declared.Refusal.{Refusal}
+use Rattle.record.proofs.ToldLaws.{refuses_nothing}
 use Rattle.record.proofs.RangeLaws.{bounded_sample}
 use Rattle.record.proofs.RefusalLaws.{Sized, Sound, refusal_stands, none_gives_way, first_refuses_nothing, rest_refuses_nothing, test_fails, unrefused_sized, in_range_bounded}
 use Rattle.sums.specs.Answers.{allan_demand}
@@ -84,9 +85,6 @@ module _ (xs : List Float) where
 
   -- the output at the buffer's front is read back whole
   module _ (before : List ℤ) {left : List ℤ} (front : left ≡ written (samples_of xs) before) where
-    pub samples_room : length xs ≤ length left
-    samples_room = omega (arith, ap length front, length-append (samples_of xs) (drop (length (samples_of xs)) before), samples_length)
-
     pub samples_taken : take (length xs) left ≡ samples_of xs
     samples_taken = rw front (take_at (samples_of xs) _ (length xs) samples_length)
 
@@ -137,3 +135,9 @@ module _ (m : ℕ) (xs : List Float) (room : ℕ) where
           in_range_lem = all;
           bounded = in_range_bounded (samples_of xs) all;
         }
+
+  -- then every reading becomes a sample, and there is room
+  pub readable : none ≡ float_refusal m xs room → (reading_refusal xs ≡ none) × (length xs ≤ room)
+  readable is =
+      let unrefused = refuses_nothing is in
+      (unrefused_none xs (unrefused_readings unrefused), unrefused_room unrefused)

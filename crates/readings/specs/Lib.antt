@@ -1,2 +1,3 @@
 pub mod Readings
 pub mod Answers
+pub mod Told

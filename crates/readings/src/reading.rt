@@ -1,11 +1,14 @@
-// One float reading, by its bits: the sign, the exponent's field and the digits below the leading one. But for the test x != x no double is worked
-// with, so that the caller's rounding direction and what becomes of subnormals have no say.
+// One float reading, by its bits: the sign, the exponent's field and the digits below the leading one. But for the test whether it is a number no
+// double is worked with, so that the caller's rounding direction and what becomes of subnormals have no say.
 ghost use Rattle.std.specs.Prelude.{◌≡◌, Bool, cond, ◌+◌, ◌-◌, ◌*◌, ◌%◌, ◌^◌, ◌≤◌, ◌<◌};
 ghost use Rattle.std.specs.Float.{binary64};
 ghost use Rattle.std.specs.Float.Ieee.{of_fields};
 ghost use Rattle.std.specs.Float.Ieee.Nearest.{closest};
 ghost use Rattle.laws.specs.Nearest.{with_sign};
 ghost use Rattle.readings.specs.Readings.{reading_number, sample_of, has_fraction};
+ghost use Rattle.readings.specs.Told.{number_told};
+
+use record::Ground;
 
 // The weight of the sign.
 const SIGN: u64 = 0x8000_0000_0000_0000;
@@ -18,17 +21,17 @@ const FIELD_OF_A_HALF: u64 = 1022;
 // A half as `rest` tells it, in parts of 2^-64.
 const HALF: u64 = 0x8000_0000_0000_0000;
 
-// 0 for a sample, 3 beyond the range, 4 for what is not a number. Sizes are in the order of their bits.
-pub(crate) fn number_of(x: f64) -> u64
-    ensures { result ≡ reading_number x }
+// 3 beyond the range, 4 for what is not a number. Sizes are in the order of their bits.
+pub(crate) fn check(x: f64) -> Result<(), Ground>
+    ensures { number_told result ≡ reading_number x }
 {
-    if x != x {
-        return record::NOT_A_NUMBER;
+    if x.is_nan() {
+        return Err(Ground::NotANumber);
     }
-    if END < f64::to_bits(x) % SIGN {
-        return record::OUT_OF_RANGE;
+    if END < x.to_bits() % SIGN {
+        return Err(Ground::OutOfRange);
     }
-    0
+    Ok(())
 }
 
 // The sample that a reading in range becomes.
@@ -36,12 +39,12 @@ pub(crate) fn sample_of(x: f64) -> i64
     requires { reading_number x ≡ 0 }
     ensures { result ≡ sample_of x }
 {
-    let bits = f64::to_bits(x);
+    let bits = x.to_bits();
     let size = nearest(bits % SIGN / LEAD, bits % LEAD) as i64;
     if bits < SIGN {
         return size;
     }
-    0 - size
+    -size
 }
 
 // What a reading in range adds to the count of those changed: 1 if it has a fraction, else 0.
@@ -49,11 +52,8 @@ pub(crate) fn counted(x: f64) -> u64
     requires { reading_number x ≡ 0 }
     ensures { result ≡ cond (has_fraction x) 1 0 }
 {
-    let bits = f64::to_bits(x);
-    if has_fraction(bits % SIGN / LEAD, bits % LEAD) {
-        return 1;
-    }
-    0
+    let bits = x.to_bits();
+    u64::from(has_fraction(bits % SIGN / LEAD, bits % LEAD))
 }
 
 // The nearest whole number to a size in range.

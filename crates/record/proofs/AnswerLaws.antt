@@ -1,11 +1,14 @@
 -- The two cases of a call that fills a lent buffer: refused, with the buffer as it came, and answered, with the output at its front.
-use Rattle.std.proofs.Common.{◌≡◌, ℕ, ◌<◌, ◌≤◌, Bool, true, false, cond, eqb, List, [], length, get_or, refl, ◌∙◌, arith, ne_eqb}
+use Rattle.std.proofs.Common.{◌≡◌, ℕ, ◌<◌, ◌≤◌, Bool, true, false, cond, eqb, List, [], length, get_or, Ok, Err, refl, sym, ◌∙◌, arith, ne_eqb}
 use Rattle.laws.specs.Lists.{written}
 use Rattle.laws.proofs.ListLaws.{written_past}
 use Rattle.record.specs.Refusals.{none, refused}
 use Rattle.record.specs.Answers.{count_answer, buffer_left}
 use Rattle.record.specs.declared.Refusal.{Refusal}
 use Rattle.record.specs.declared.CountAnswer.{CountAnswer}
+use Rattle.record.specs.declared.grounds.Refused.{Refused}
+use Rattle.record.specs.Told.{number_of, count_told}
+use Rattle.record.proofs.ToldLaws.{numbered}
 
 module _ {A : Type 0} (count : ℕ) (out buffer : List A) where
   -- refused by a number at a place: the answer is the refusal and nought
@@ -35,6 +38,18 @@ module _ {A : Type 0} (out buffer : List A) where
 
   pub left_answered : {r : Refusal} {left : List A} → r ≡ none → left ≡ written out buffer → left ≡ buffer_left r out buffer
   left_answered e w = (call_answered 0 out buffer e w).1
+
+-- a call that ends in an error, as it is told, and one that does not
+module _ (count : ℕ) where
+  pub error_value : (e : Refused) {r : Refusal} → refused (number_of e.why) e.place ≡ r → count_told (Err e) ≡ count_answer r count
+  error_value e is = value_refused count (number_of e.why) e.place (numbered e.why) (sym is) refl
+
+  pub count_value : {r : Refusal} → none ≡ r → count_told (Ok count) ≡ count_answer r count
+  count_value is = value_answered count (sym is)
+
+module _ {A : Type 0} (out buffer : List A) where
+  pub error_left : (e : Refused) {r : Refusal} → refused (number_of e.why) e.place ≡ r → buffer ≡ buffer_left r out buffer
+  error_left e is = left_refused out buffer (number_of e.why) e.place (numbered e.why) (sym is)
 
 -- ---- entries of the buffer
 

@@ -3,3 +3,4 @@ pub mod RefusalLaws
 pub mod SurePass
 pub mod AnswerLaws
 pub mod Unique
+pub mod ToldLaws

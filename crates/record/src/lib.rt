@@ -2,10 +2,15 @@
 
 #![tactic(auto)]
 
+pub mod grounds;
+
 ghost use Rattle.std.specs.Prelude.{◌≡◌, ◌+◌, ◌%◌, ◌^◌, true};
 ghost use Rattle.std.specs.Int.{w64};
 ghost use Rattle.std.proofs.Common.{of_z};
 ghost use Rattle.record.specs.Refusals.{none, in_range, range_refusal, size_refusal, record_refusal};
+ghost use Rattle.record.specs.Told.{told};
+
+pub use grounds::{Ground, Refused};
 
 // A phase sample lies within this many picoseconds either way: 2^40.
 pub const LARGEST_SAMPLE: i64 = 1099511627776;
@@ -17,27 +22,6 @@ pub const MOST_SAMPLES: u64 = 32768;
 pub const MOST_READINGS: u64 = 32767;
 // The largest factor m.
 pub const LARGEST_FACTOR: u16 = 10922;
-
-// Too few samples, or a count of 0.
-pub const TOO_FEW: u64 = 1;
-// Too many samples, readings or counts.
-pub const TOO_MANY: u64 = 2;
-// A value outside its range, at the index of the first.
-pub const OUT_OF_RANGE: u64 = 3;
-// A float reading that is not a number.
-pub const NOT_A_NUMBER: u64 = 4;
-// A factor outside its range.
-pub const BAD_FACTOR: u64 = 5;
-// A lent buffer that is too short.
-pub const NO_ROOM: u64 = 6;
-// A meter that does not hold together.
-pub const BAD_METER: u64 = 7;
-// A deviation of nought where a ratio or a bar is asked.
-pub const NO_DEVIATION: u64 = 8;
-// Bad bytes or a bad length of a file.
-pub const BAD_FILE: u64 = 9;
-// A channel above 15.
-pub const BAD_CHANNEL: u64 = 11;
 
 // What is refused and where; number 0 refuses nothing.
 #[derive(Clone, Copy)]
@@ -74,63 +58,62 @@ pub fn in_range(x: i64) -> bool
 }
 
 // 3 at the first sample outside its range.
-pub fn range_refusal(samples: &[i64]) -> Refusal
-    ensures { result ≡ range_refusal samples.now }
+pub fn check_range(samples: &[i64]) -> Result<(), Refused>
+    ensures { told result ≡ range_refusal samples.now }
 {
     if surely_in_range(samples) {
-        return Refusal {
-            number: 0,
-            place: 0,
-        };
+        return Ok(());
     }
     first_outside(samples)
 }
 
 // 5, 2, 1: what the factor m and the number n of samples alone refuse.
-pub fn size_refusal(demand: Demand, m: u64, n: u64) -> Refusal
-    ensures { result ≡ size_refusal demand m n }
+pub fn check_size(demand: Demand, m: u64, n: u64) -> Result<(), Refused>
+    ensures { told result ≡ size_refusal demand m n }
 {
     let largest = demand.largest as u64;
     if m < 1 {
-        return Refusal {
-            number: BAD_FACTOR,
-            place: 0,
-        };
+        return Err(Ground::BadFactor.at(0));
     }
     if largest < m {
-        return Refusal {
-            number: BAD_FACTOR,
-            place: 0,
-        };
+        return Err(Ground::BadFactor.at(0));
     }
     if MOST_SAMPLES < n {
-        return Refusal {
-            number: TOO_MANY,
-            place: 0,
-        };
+        return Err(Ground::TooMany.at(0));
     }
     if n < demand.each as u64 * m + demand.besides as u64 {
-        return Refusal {
-            number: TOO_FEW,
-            place: 0,
-        };
+        return Err(Ground::TooFew.at(0));
     }
-    Refusal {
-        number: 0,
-        place: 0,
-    }
+    Ok(())
 }
 
 // 5, 2, 1, then 3 at the lowest index: the check of a record.
+pub fn check_record(demand: Demand, m: u64, samples: &[i64]) -> Result<(), Refused>
+    ensures { told result ≡ record_refusal demand m samples.now }
+{
+    check_size(demand, m, samples.len() as u64)?;
+    check_range(samples)
+}
+
+// check_range as its number and place.
+pub fn range_refusal(samples: &[i64]) -> Refusal
+    ensures { result ≡ range_refusal samples.now }
+{
+    Refusal::from(check_range(samples))
+}
+
+// check_size as its number and place.
+pub fn size_refusal(demand: Demand, m: u64, n: u64) -> Refusal
+    ensures { result ≡ size_refusal demand m n }
+{
+    Refusal::from(check_size(demand, m, n))
+}
+
+// check_record as its number and place.
 pub fn record_refusal(demand: Demand, m: u64, samples: &[i64]) -> Refusal
     ensures { result ≡ record_refusal demand m samples.now }
 {
-    let size = size_refusal(demand, m, samples.len() as u64);
-    let number = size.number;
-    if number != 0 {
-        return size;
-    }
-    range_refusal(samples)
+    Refusal::from(check_record(demand, m, samples))
 }
 
 // Nought beside a refusal.
@@ -153,10 +136,8 @@ fn surely_in_range(samples: &[i64]) -> bool
     ensures { result ≡ true → range_refusal samples.now ≡ none }
 {
     let mut reached: u64 = 0;
-    let mut i: usize = 0;
-    while i < samples.len() {
-        reached = reached | moved_up(samples[i]);
-        i += 1;
+    for &x in samples {
+        reached |= moved_up(x);
     }
     reached <= 2 * RISE
 }
@@ -172,22 +153,13 @@ fn moved_up(x: i64) -> u64
 }
 
 // 3 at the first sample outside its range, sample by sample.
-fn first_outside(samples: &[i64]) -> Refusal
-    ensures { result ≡ range_refusal samples.now }
+fn first_outside(samples: &[i64]) -> Result<(), Refused>
+    ensures { told result ≡ range_refusal samples.now }
 {
-    let mut i: usize = 0;
-    while i < samples.len() {
-        if in_range(samples[i]) {
-            i += 1;
-        } else {
-            return Refusal {
-                number: OUT_OF_RANGE,
-                place: i as u64,
-            };
+    for (i, &x) in samples.iter().enumerate() {
+        if !in_range(x) {
+            return Err(Ground::OutOfRange.at(i as u64));
         }
     }
-    Refusal {
-        number: 0,
-        place: 0,
-    }
+    Ok(())
 }

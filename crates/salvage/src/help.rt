@@ -1,10 +1,5 @@
 // What the program says of itself.
 
-// Whether a word asks for help.
-pub(crate) fn asked(word: &[u8]) -> bool {
-    matches!(word, b"-h" | b"--help")
-}
-
 // To standard error, where no file is named or more than one.
 pub(crate) fn usage(rt: &HostRuntime) {
     let _ = rt.stderr().write_all(b"usage: salvage FILE >MENDED (salvage --help says more)\n");

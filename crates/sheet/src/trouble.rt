@@ -1,43 +1,26 @@
 // What could not be opened, read or written: a line to standard error.
-use crate::reason;
+use files::Reason;
+use record::Refused;
 use std::io;
 
 // What the system could not do with a file, and why.
 pub(crate) fn file(rt: &HostRuntime, path: &[u8], error: io::Error) {
-    text(rt, b"sheet: ");
-    text(rt, path);
-    why(rt, error);
+    let _ = told(rt, path, error);
 }
 
 // An argument that could not be taken.
 pub(crate) fn argument(rt: &HostRuntime, i: usize, error: io::Error) {
-    text(rt, b"sheet: argument ");
-    let _ = rt.eprint(i);
-    why(rt, error);
-}
-
-// A file of which a part may lack.
-pub(crate) fn interrupted(rt: &HostRuntime, path: &[u8]) {
-    text(rt, b"sheet: ");
-    text(rt, path);
-    text(rt, b": the reading was interrupted\n");
+    let _ = eprintln!(rt; "sheet: argument {i}: {}", Reason(error));
 }
 
 // A call that the library refused, which it never does here.
-pub(crate) fn refused(rt: &HostRuntime, number: u64) {
-    text(rt, b"sheet: refused ");
-    let _ = rt.eprint(number);
-    text(rt, b"\n");
+pub(crate) fn refused(rt: &HostRuntime, refused: Refused) {
+    let _ = eprintln!(rt; "sheet: refused {}", u64::from(refused.why));
 }
 
-// Why, to the end of the line.
-fn why(rt: &HostRuntime, error: io::Error) {
-    text(rt, b": ");
-    reason::told(rt, error);
-    text(rt, b"\n");
-}
-
-// Bytes.
-fn text(rt: &HostRuntime, bytes: &[u8]) {
-    let _ = rt.stderr().write_all(bytes);
+// The line of a file, in pieces, since a file's name need not be text.
+fn told(rt: &HostRuntime, path: &[u8], error: io::Error) -> io::Result<()> {
+    eprint!(rt; "sheet: ")?;
+    rt.stderr().write_all(path)?;
+    eprintln!(rt; ": {}", Reason(error))
 }

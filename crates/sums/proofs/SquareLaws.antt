@@ -9,9 +9,8 @@ use Rattle.laws.proofs.SumLaws.{sum_step, sum_within}
 use Rattle.laws.proofs.Squares.{raised, raised_within, squares_of_raised, squares_by_parts}
 use Rattle.wide.specs.Wide.{value, halves, wide_sum, wide_difference}
 use Rattle.wide.specs.declared.Wide.{Wide}
-use Rattle.wide.proofs.WideLaws.{halves_of_value, sum_of_halves, sum_is_halves, below_top}
+use Rattle.wide.proofs.WideLaws.{sum_of_halves, sum_is_halves, difference_of_halves, below_top}
 use Rattle.sums.specs.declared.squares.Parts.{Parts}
-use Rattle.wide.proofs.Complements.{difference_of_halves}
 
 -- ---- the sums by parts with a number u more, whose parts are h and l
 abbrev pub number_taken : Parts → ℕ → ℕ → ℕ → Parts
@@ -73,16 +72,13 @@ module _ (f : ℕ → ℕ) (n : ℕ) where
     )
 
 -- ---- three sums joined
-pub low_word : (n : ℕ) → n < 2 ^ 64 → ◌≡◌ {A = Wide} (record { hi = 0; lo = n }) (halves n)
-low_word n below = sym (halves_of_value (record { hi = 0; lo = n }) below) ∙ ap halves (omega arith)
-
 module _ (high cross low : ℕ) (high_fits : high < 2 ^ 64) (cross-fits : cross < 2 ^ 64) (low_fits : low < 2 ^ 64) where
   pub parts_joined :
-      {first second upper whole : Wide} → first ≡ halves (high * 2 ^ 44) → second ≡ halves (cross * 2 ^ 23) → upper ≡ wide_sum first second →
-      whole ≡ wide_sum upper (record { hi = 0; lo = low }) → whole ≡ halves (high * 2 ^ 44 + cross * 2 ^ 23 + low)
-  parts_joined first_is second_is upper_is whole_is =
+      {first second upper last whole : Wide} → first ≡ halves (high * 2 ^ 44) → second ≡ halves (cross * 2 ^ 23) → upper ≡ wide_sum first second →
+      last ≡ halves low → whole ≡ wide_sum upper last → whole ≡ halves (high * 2 ^ 44 + cross * 2 ^ 23 + low)
+  parts_joined first_is second_is upper_is last_is whole_is =
       let upper-sum = upper_is ∙ ap₂ wide_sum first_is second_is ∙ sum_of_halves (high * 2 ^ 44) (cross * 2 ^ 23) (omega arith) in
-      whole_is ∙ ap₂ wide_sum upper-sum (low_word low low_fits) ∙ sum_of_halves (high * 2 ^ 44 + cross * 2 ^ 23) low (omega arith)
+      whole_is ∙ ap₂ wide_sum upper-sum last_is ∙ sum_of_halves (high * 2 ^ 44 + cross * 2 ^ 23) low (omega arith)
 
 -- ---- raised squares lowered
 module _ (squares : Wide) (raised-sum m count : ℕ) (below : value squares + count * (m * m * 2 ^ 84) < 2 ^ 126)

@@ -21,7 +21,7 @@ use Rattle.wide.proofs.WideLaws.{sum_grows}
 use Rattle.record.specs.Refusals.{none, range_refusal, record_refusal}
 use Rattle.record.proofs.RefusalLaws.{none_sound, Sound, range_bounded}
 use Rattle.sums.specs.Published.{difference, allan_count, window_sum}
-use Rattle.sums.specs.Answers.{allan_demand, modified_demand}
+use Rattle.sums.specs.Answers.{allan_demand}
 use Rattle.sums.proofs.BlockLaws.{window_at}
 use Rattle.sums.proofs.PublishedLaws.{difference_of, difference_means, first_so_far, modified_so_far, first_step, first_within, first_window_is, gain, gain_of, gain_means, gain_within, window_gains, window_after, difference_within, window_within, window_fits_word, modified_so_far_below}
 
@@ -36,10 +36,10 @@ module _ (m : ℕ) (xs : List ℤ) (i : ℕ) (unrefused : range_refusal xs ≡ n
   difference_is = machine_is w64 (difference_of m xs i) difference_fits ∙ difference_means m xs i
 
 -- ---- what the window gains
-module _ (m : ℕ) (xs : List ℤ) (j : ℕ) (unrefused : range_refusal xs ≡ none) where
+module _ (m : ℕ) (xs : List ℤ) (j : ℕ) (unrefused : record_refusal allan_demand m xs ≡ none) where
   pub gain_fits : Fit w64 (gain_of m xs j)
   gain_fits =
-      let bounded = range_bounded xs unrefused in
+      let bounded = (none_sound allan_demand m xs unrefused).bounded in
       omega (
         arith,
         bounded j,
@@ -53,7 +53,7 @@ module _ (m : ℕ) (xs : List ℤ) (j : ℕ) (unrefused : range_refusal xs ≡ n
       )
 
   pub gain_fits_word : SFits w64 (gain m xs j)
-  gain_fits_word = small_fits (gain m xs j) (omega (arith, gain_within m xs (range_bounded xs unrefused) j))
+  gain_fits_word = small_fits (gain m xs j) (omega (arith, gain_within m xs (none_sound allan_demand m xs unrefused).bounded j))
 
   pub gain_is : machine w64 (gain_of m xs j) ≡ gain m xs j
   gain_is = machine_is w64 (gain_of m xs j) gain_fits ∙ gain_means m xs j
@@ -102,16 +102,16 @@ square_taken_in f n small below {y = y} total-is y-is next_is =
 
 -- ---- one window more
 
-module _ (m : ℕ) (xs : List ℤ) (unrefused : record_refusal modified_demand m xs ≡ none) (j : ℕ) (j-below : j + 3 * m ≤ length xs)
+module _ (m : ℕ) (xs : List ℤ) (unrefused : record_refusal allan_demand m xs ≡ none) (j : ℕ) (j-below : j + 3 * m ≤ length xs)
     {total : Wide} {y : ℤ} (total-is : total ≡ halves (modified_so_far m xs j)) (y-is : y ≡ window_sum m xs j) where
-  modified_sound : Sound modified_demand m xs
-  modified_sound = none_sound modified_demand m xs unrefused
+  sound : Sound allan_demand m xs
+  sound = none_sound allan_demand m xs unrefused
 
   window_small : nat_abs (window_sum m xs j) ≤ 2 ^ 62
-  window_small = window_fits_word m xs modified_sound.bounded modified_sound.factor_most j
+  window_small = window_fits_word m xs sound.bounded sound.factor_most j
 
   modified_below : modified_so_far m xs (j + 1) < 2 ^ 126
-  modified_below = modified_so_far_below m xs modified_sound.bounded modified_sound.factor_most (j + 1) (omega (arith, modified_sound.not_too_many, modified_sound.factor_least))
+  modified_below = modified_so_far_below m xs sound.bounded sound.factor_most (j + 1) (omega (arith, sound.not_too_many, sound.factor_least))
 
   pub modified_grows : {next : Wide} → next ≡ wide_sum total (halves (square (read y))) → next ≡ halves (modified_so_far m xs (j + 1))
   modified_grows = square_taken_in (window_sum m xs) j window_small modified_below total-is y-is
@@ -123,9 +123,9 @@ grown m xs i s y = s ∋ first_so_far m xs i ⊕ of_z w64 y ∋ difference m xs 
 abbrev pub moved : ℕ → List ℤ → ℕ → ℤ → ℤ → Expression
 moved m xs j w y = of_z w64 w ∋ window_sum m xs j ⊕ of_z w64 y ∋ gain m xs j
 
-module _ (m : ℕ) (xs : List ℤ) (unrefused : record_refusal modified_demand m xs ≡ none) where
-  abbrev record_sound : Sound modified_demand m xs
-  record_sound = none_sound modified_demand m xs unrefused
+module _ (m : ℕ) (xs : List ℤ) (unrefused : record_refusal allan_demand m xs ≡ none) where
+  abbrev record_sound : Sound allan_demand m xs
+  record_sound = none_sound allan_demand m xs unrefused
 
   module _ (i s : ℕ) (i-below : i ≤ m) (s-is : s ≡ of_z w64 (first_so_far m xs i)) where
     small : nat_abs (first_so_far m xs i) ≤ 2 ^ 56

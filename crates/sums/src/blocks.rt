@@ -29,12 +29,10 @@ pub(crate) fn windows(gains: &[i64; BLOCK], m: u64, window: i64) -> Block
     let mut high = moved_by(rise, window);
     let mut total = Wide { hi: 0, lo: 0 };
     let mut raised: u64 = 0;
-    let mut k: usize = 0;
-    while k < BLOCK {
-        high = moved_by(high, gains[k]);
+    for gain in gains {
+        high = moved_by(high, *gain);
         total = with_square(total, high);
         raised += high;
-        k += 1;
     }
     Block {
         window: high as i64 - rise as i64,

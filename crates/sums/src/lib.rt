@@ -8,10 +8,11 @@ mod squares;
 mod totals;
 
 ghost use Rattle.std.specs.Prelude.{◌≡◌};
-ghost use Rattle.wide.specs.Wide.{halves};
 ghost use Rattle.sums.specs.Answers.{allan_sum_answer, modified_sum_answer};
+ghost use Rattle.sums.specs.Told.{sum_told, part_told};
 
-use record::{Demand, Refusal};
+use record::{Demand, Ground, Refused};
+use totals::Record;
 use wide::Wide;
 
 // What the Allan sum asks of a record: N at least 2m + 1.
@@ -29,6 +30,13 @@ pub const MODIFIED: Demand = Demand {
 };
 
 // A sum of squares, and its count.
+#[derive(Clone, Copy)]
+pub struct Sum {
+    pub total: Wide,
+    pub count: u64,
+}
+
+// A sum with its count as C is told it; noughts beside a refusal.
 #[repr(C)]
 #[derive(Clone, Copy)]
 pub struct SumAnswer {
@@ -55,49 +63,86 @@ pub const NO_PART: Part = Part {
 };
 
 // The Allan sum A with its count K. Refuses 5, 2, 1, then 3 at the lowest index.
-pub fn allan_sum(samples: &[i64], m: u64) -> SumAnswer
-    ensures { result ≡ allan_sum_answer m samples.now }
+pub fn allan(samples: &[i64], m: u64) -> Result<Sum, Refused>
+    ensures { sum_told result ≡ allan_sum_answer m samples.now }
 {
-    let refusal = record::record_refusal(ALLAN, m, samples);
-    if refusal.number != 0 {
-        return refused_sum(refusal);
-    }
-    let sum = totals::allan_total(samples, m as usize);
+    record::check_record(ALLAN, m, samples)?;
+    let record = Record {
+        samples,
+        m: m as usize,
+    };
+    let total = record.allan_total();
     let count = samples.len() as u64 - 2 * m;
-    SumAnswer {
-        number: 0,
-        place: 0,
-        sum,
-        count,
-    }
+    Ok(Sum { total, count })
 }
 
 // The modified sum B with its count C. Refuses 5, 2, 1, then 3 at the lowest index.
+pub fn modified(samples: &[i64], m: u64) -> Result<Sum, Refused>
+    ensures { sum_told result ≡ modified_sum_answer m samples.now }
+{
+    record::check_record(MODIFIED, m, samples)?;
+    let record = Record {
+        samples,
+        m: m as usize,
+    };
+    let total = record.modified_total();
+    let count = samples.len() as u64 + 1 - 3 * m;
+    Ok(Sum { total, count })
+}
+
+// The Allan sum as C is told it.
+pub fn allan_sum(samples: &[i64], m: u64) -> SumAnswer
+    ensures { result ≡ allan_sum_answer m samples.now }
+{
+    SumAnswer::from(allan(samples, m))
+}
+
+// The modified sum as C is told it.
 pub fn modified_sum(samples: &[i64], m: u64) -> SumAnswer
     ensures { result ≡ modified_sum_answer m samples.now }
 {
-    let refusal = record::record_refusal(MODIFIED, m, samples);
-    if refusal.number != 0 {
-        return refused_sum(refusal);
-    }
-    let sum = totals::modified_total(samples, m as usize);
-    let count = samples.len() as u64 + 1 - 3 * m;
-    SumAnswer {
-        number: 0,
-        place: 0,
-        sum,
-        count,
+    SumAnswer::from(modified(samples, m))
+}
+
+impl From<Result<Sum, Refused>> for SumAnswer {
+    ghost from_gives = { λ sum answer. answer ≡ sum_told sum };
+
+    fn from(sum: Result<Sum, Refused>) -> SumAnswer {
+        match sum {
+            Ok(sum) => SumAnswer {
+                number: 0,
+                place: 0,
+                sum: sum.total,
+                count: sum.count,
+            },
+            Err(refused) => SumAnswer {
+                number: refused.why.into(),
+                place: refused.place,
+                sum: NOUGHT,
+                count: 0,
+            },
+        }
     }
 }
 
-// Noughts beside a refusal.
-fn refused_sum(refusal: Refusal) -> SumAnswer
-    ensures { result ≡ record { number = refusal.number; place = refusal.place; sum = halves 0; count = 0 } }
-{
-    SumAnswer {
-        number: refusal.number,
-        place: refusal.place,
-        sum: Wide { hi: 0, lo: 0 },
-        count: 0,
+impl From<Option<Sum>> for Part {
+    ghost from_gives = { λ sum part. part ≡ part_told sum };
+
+    fn from(sum: Option<Sum>) -> Part {
+        match sum {
+            Some(sum) => Part {
+                number: 0,
+                sum: sum.total,
+                count: sum.count,
+            },
+            None => Part {
+                number: Ground::TooFew.into(),
+                sum: NOUGHT,
+                count: 0,
+            },
+        }
     }
 }
+
+// What stands beside a refusal.
+const NOUGHT: Wide = Wide { hi: 0, lo: 0 };

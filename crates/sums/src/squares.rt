@@ -38,7 +38,7 @@ pub(crate) fn joined(parts: Parts) -> Wide
         wide::product(parts.cross, CROSS_WEIGHT),
     );
     let low = parts.low;
-    wide::sum(upper, Wide { hi: 0, lo: low })
+    wide::sum(upper, Wide::from(low))
 }
 
 // The sum of squares of count numbers, from the sum of squares and the sum of the numbers raised by m * 2^42.

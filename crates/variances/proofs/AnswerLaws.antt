@@ -1,5 +1,10 @@
 -- Each answer where it is refused and where it is given.
-use mathlib.Core.Path.{◌≡◌, refl, ap, ◌∙◌}
+use mathlib.Core.Path.{◌≡◌, refl, sym, ap, ◌∙◌}
+use Rattle.std.proofs.Common.{Err}
+use Rattle.record.specs.Told.{number_of}
+use Rattle.record.specs.declared.grounds.Refused.{Refused}
+use Rattle.record.proofs.ToldLaws.{refuses}
+use Rattle.variances.specs.Told.{fraction_told, deviation_told}
 use Prim.Native.Nat.{ℕ, ◌^◌, ◌≤◌, ◌<◌}
 use borrow.Author.Tests.{eq-eqb, ne_eqb, lt-ltb, le-ltb}
 use native.Mathlib.Omega.{arith}
@@ -41,6 +46,10 @@ module _ (r : Refusal) (n d : ℕ) where
   pub fraction_given : r.number ≡ 0 → fraction_answer r n d ≡ given_fraction (lowest_terms n d)
   unfolding fraction_answer
   fraction_given nothing = choice_true _ _ (eq-eqb r.number 0 nothing)
+
+-- an error, as it is told, is the answer where it is what refuses
+pub error_fraction : (e : Refused) {r : Refusal} (n d : ℕ) → refused (number_of e.why) e.place ≡ r → fraction_told (Err e) ≡ fraction_answer r n d
+error_fraction e {r} n d is = ap no_fraction is ∙ sym (fraction_refused r n d (refuses e is))
 
 module _ (s m count : ℕ) where
   -- where nothing is refused
@@ -87,6 +96,9 @@ deviation_refusal s m count r = figure_refusal s m count then large_refusal r
 module _ (s m count r : ℕ) where
   pub figure_refused : ((figure_refusal s m count).number ≡ 0 → ⊥) → deviation_answer (deviation_refusal s m count r) r ≡ no_deviation (figure_refusal s m count)
   figure_refused some = ap (λ (t : Refusal). deviation_answer t r) (refusal_stands (figure_refusal s m count) (large_refusal r) some) ∙ deviation_refused _ r some
+
+  pub figure_error : (e : Refused) → refused (number_of e.why) e.place ≡ figure_refusal s m count → deviation_told (Err e) ≡ deviation_answer (deviation_refusal s m count r) r
+  figure_error e is = ap no_deviation is ∙ sym (figure_refused (refuses e is))
 
   pub figure_allowed : Allowed s m count → deviation_answer (deviation_refusal s m count r) r ≡ deviation_answer (large_refusal r) r
   figure_allowed allowed = ap (λ (t : Refusal). deviation_answer t r) (none_gives_way (figure_refusal s m count) (large_refusal r) (no_number s m count allowed))

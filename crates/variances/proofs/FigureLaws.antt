@@ -13,7 +13,7 @@ use Rattle.laws.proofs.Halves.{two_digits_below}
 use Rattle.wide.specs.Wide.{value}
 use Rattle.wide.specs.declared.Wide.{Wide}
 use Rattle.record.specs.Refusals.{none, refused, refused_if, ◌then◌}
-use Rattle.record.specs.declared.Refusal.{Refusal}
+use Rattle.record.proofs.ToldLaws.{refuses_nothing}
 use Rattle.record.proofs.RefusalLaws.{first_refuses_nothing, rest_refuses_nothing, test_fails}
 use Rattle.variances.specs.Answers.{figure_refusal}
 
@@ -87,9 +87,9 @@ module _ (s m count : ℕ) where
 pub unrefused_none : (s m count : ℕ) → (figure_refusal s m count).number ≡ 0 → figure_refusal s m count ≡ none
 unrefused_none s m count e = allowed_none s m count (unrefused_allowed s m count e)
 
--- where the refusal that was found has number 0
-pub nothing_refused : {s m count : ℕ} {refusal : Refusal} → refusal ≡ figure_refusal s m count → refusal.number ≡ 0 → Allowed s m count
-nothing_refused {s} {m} {count} is none = unrefused_allowed s m count (rw is at none)
+-- where no refusal was found
+pub nothing_refused : {s m count : ℕ} → none ≡ figure_refusal s m count → Allowed s m count
+nothing_refused {s} {m} {count} is = unrefused_allowed s m count (refuses_nothing is)
 
 -- ---- the denominator f m^2 count, f up to 6, stays far below a word and is not nought
 

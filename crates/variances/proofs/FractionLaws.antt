@@ -4,11 +4,8 @@ use mathlib.Core.Path.{◌≡◌, refl, sym, ap, ◌∙◌, subst}
 use Prim.Native.Nat.{ℕ, zero, suc, ◌*◌, ◌/◌, ◌%◌, ◌<◌, ◌∣◌}
 use native.Mathlib.Nat.{mod-lt, zero-lt-suc, dvd_refl, dvd-zero, dvd-mod_iff, dvd_antisymm, pos_of_dvd_of_pos, mul-dvd-mul_left, div-mul_cancel, mul-div_cancel', eq-one_of_dvd-one, dvd_of_mul-dvd-mul_left, mul-one, div_self, zero-div}
 use native.Mathlib.Omega.{arith}
-use borrow.Author.Tests.{ne_eqb}
-use Rattle.laws.proofs.Tests.{choice_false}
-use Rattle.wide.specs.Wide.{halves, division_of}
+use Rattle.wide.specs.Wide.{halves}
 use Rattle.wide.specs.declared.Wide.{Wide}
-use Rattle.wide.specs.declared.Division.{Division}
 use Rattle.record.specs.Refusals.{none}
 use Rattle.variances.specs.Fractions.{euclid, gcd}
 use Rattle.variances.specs.Answers.{fraction_answer}
@@ -106,17 +103,9 @@ lowest_of_nought d h =
 
 -- ---- by two divisions: the remainder by d gives the divisor, and that divides both
 
-quotient_given : (n d : ℕ) → 0 < d → (division_of n d).quotient ≡ halves (n / d)
-unfolding division_of
-quotient_given n d some = ap (λ (v : Division). v.quotient) (choice_false _ _ (ne_eqb d 0 (λ e. omega arith)))
-
-remainder_given : (n d : ℕ) → 0 < d → (division_of n d).remainder ≡ n % d
-unfolding division_of
-remainder_given n d some = ap (λ (v : Division). v.remainder) (choice_false _ _ (ne_eqb d 0 (λ e. omega arith)))
-
-module _ (n d : ℕ) (some : 0 < d) {first : Division} (first_is : first ≡ division_of n d) {divisor : ℕ} (divisor-is : divisor ≡ gcd d first.remainder) where
+module _ (n d : ℕ) (some : 0 < d) {sum divisor : ℕ} (sum_is : sum ≡ n) (divisor-is : divisor ≡ gcd d (sum % d)) where
   pub divisor_is_gcd : divisor ≡ gcd n d
-  divisor_is_gcd = divisor-is ∙ ap (gcd d) (ap (λ (v : Division). v.remainder) first_is ∙ remainder_given n d some) ∙ sym (gcd_goes_on n d some)
+  divisor_is_gcd = divisor-is ∙ ap (λ (t : ℕ). gcd d (t % d)) sum_is ∙ sym (gcd_goes_on n d some)
 
   pub divisor_above_nought : 0 < divisor
   divisor_above_nought = rw divisor_is_gcd (gcd_above_nought n d some)
@@ -124,8 +113,8 @@ module _ (n d : ℕ) (some : 0 < d) {first : Division} (first_is : first ≡ div
   abbrev reduced_to : Wide → ℕ → FractionAnswer
   reduced_to numerator denominator = record { number = 0; place = 0; numerator = numerator; denominator = denominator }
 
-  pub lowest_by_divisor : {reduced : Division} → reduced ≡ division_of n divisor → reduced_to reduced.quotient (d / divisor) ≡ fraction_answer none n d
+  pub lowest_by_divisor : {numerator : Wide} → numerator ≡ halves (sum / divisor) → reduced_to numerator (d / divisor) ≡ fraction_answer none n d
   unfolding fraction_answer
-  lowest_by_divisor reduced-is =
-      let numerator-is = ap (λ (v : Division). v.quotient) reduced-is ∙ quotient_given n divisor divisor_above_nought in
-      ap (λ (w : Wide). reduced_to w (d / divisor)) numerator-is ∙ ap (λ (g : ℕ). reduced_to (halves (n / g)) (d / g)) divisor_is_gcd
+  lowest_by_divisor numerator-is =
+      ap (λ (w : Wide). reduced_to w (d / divisor)) (numerator-is ∙ ap (λ (t : ℕ). halves (t / divisor)) sum_is)
+      ∙ ap (λ (g : ℕ). reduced_to (halves (n / g)) (d / g)) divisor_is_gcd

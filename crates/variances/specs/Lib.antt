@@ -1,3 +1,4 @@
 pub mod Fractions
 pub mod Deviations
 pub mod Answers
+pub mod Told

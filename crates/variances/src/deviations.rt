@@ -4,56 +4,49 @@ ghost use Rattle.wide.specs.Wide.{value};
 ghost use Rattle.record.specs.Refusals.{refused_if, ◌then◌};
 ghost use Rattle.variances.specs.Deviations.{within};
 ghost use Rattle.variances.specs.Deviations.{deviation as greatestWithin};
-ghost use Rattle.variances.specs.Answers.{figure_refusal, deviation_answer};
+ghost use Rattle.variances.specs.Answers.{figure_refusal, deviation_answer, allan_deviation_answer, time_deviation_answer};
+ghost use Rattle.variances.specs.Told.{deviation_told};
 
-use crate::DeviationAnswer;
-use crate::refusals::figure_refusal;
-use record::Refusal;
+use crate::refusals;
+use record::{Ground, Refused};
+use sums::Sum;
 use wide::Wide;
 
 // A deviation is at most this many units of 2^-20 picoseconds: 2^62.
 const LARGEST_DEVIATION: u64 = 4611686018427387904;
 
-// The deviation of the variance sum / (scale m^2 count), or what is refused; the scale is 2 for Allan, 6 for time.
-pub(crate) fn of_variance(scale: u64, sum: Wide, m: u64, count: u64) -> DeviationAnswer
-    requires { (0 < scale) × (scale ≤ 6) }
-    ensures { result ≡ deviation_answer (figure_refusal (value sum) m count then refused_if (ltb (2 ^ 62) (greatestWithin (value sum) (scale * (m * m) * count))) 3 0) (greatestWithin (value sum) (scale * (m * m) * count)) }
+// The deviation of the Allan variance. Refuses 5, 1, 2, 3 for the sum, then 3 where it would be above 2^62.
+pub fn allan_root(sum: Sum, m: u64) -> Result<u64, Refused>
+    ensures { deviation_told result ≡ allan_deviation_answer (value sum.total) m sum.count }
 {
-    let refusal = figure_refusal(sum, m, count);
-    if refusal.number != 0 {
-        return refused(refusal);
-    }
-    deviation(sum, scale * (m * m) * count)
+    of_variance(2, sum, m)
+}
+
+// The deviation of the time variance. Refuses 5, 1, 2, 3 for the sum, then 3 where it would be above 2^62.
+pub fn time_root(sum: Sum, m: u64) -> Result<u64, Refused>
+    ensures { deviation_told result ≡ time_deviation_answer (value sum.total) m sum.count }
+{
+    of_variance(6, sum, m)
+}
+
+// The deviation of the variance total / (scale m^2 count); the scale is 2 for Allan, 6 for time.
+fn of_variance(scale: u64, sum: Sum, m: u64) -> Result<u64, Refused>
+    requires { (0 < scale) × (scale ≤ 6) }
+    ensures { deviation_told result ≡ deviation_answer (figure_refusal (value sum.total) m sum.count then refused_if (ltb (2 ^ 62) (greatestWithin (value sum.total) (scale * (m * m) * sum.count))) 3 0) (greatestWithin (value sum.total) (scale * (m * m) * sum.count)) }
+{
+    refusals::check(sum, m)?;
+    deviation(sum.total, scale * (m * m) * sum.count)
 }
 
 // The deviation of sum / d, or 3 where it would be above 2^62.
-fn deviation(sum: Wide, d: u64) -> DeviationAnswer
+fn deviation(sum: Wide, d: u64) -> Result<u64, Refused>
     requires { (0 < d) × (value sum < 2 ^ 126) }
-    ensures { result ≡ deviation_answer (refused_if (ltb (2 ^ 62) (greatestWithin (value sum) d)) 3 0) (greatestWithin (value sum) d) }
+    ensures { deviation_told result ≡ deviation_answer (refused_if (ltb (2 ^ 62) (greatestWithin (value sum) d)) 3 0) (greatestWithin (value sum) d) }
 {
     if wide::square_at_most(LARGEST_DEVIATION + 1, d, sum) {
-        return DeviationAnswer {
-            number: record::OUT_OF_RANGE,
-            place: 0,
-            deviation: 0,
-        };
+        return Err(Ground::OutOfRange.at(0));
     }
-    DeviationAnswer {
-        number: 0,
-        place: 0,
-        deviation: by_bits(sum, d),
-    }
-}
-
-// Nought beside a refusal.
-fn refused(refusal: Refusal) -> DeviationAnswer
-    ensures { result ≡ record { number = refusal.number; place = refusal.place; deviation = 0 } }
-{
-    DeviationAnswer {
-        number: refusal.number,
-        place: refusal.place,
-        deviation: 0,
-    }
+    Ok(by_bits(sum, d))
 }
 
 // The deviation where it is not above 2^62.
@@ -62,10 +55,8 @@ fn by_bits(sum: Wide, d: u64) -> u64
     ensures { result ≡ greatestWithin (value sum) d }
 {
     let mut r: u64 = 0;
-    let mut left: u64 = 63;
-    while 0 < left {
-        left -= 1;
-        r = with_bit(r, 1 << left, sum, d);
+    for bit in (0..63u64).rev() {
+        r = with_bit(r, 1 << bit, sum, d);
     }
     r
 }

@@ -1,54 +1,58 @@
 // Fractions in lowest terms.
-ghost use Rattle.std.specs.Prelude.{◌≡◌, ◌*◌, ◌≤◌, ◌<◌};
-ghost use Rattle.wide.specs.Wide.{value, halves};
+ghost use Rattle.std.specs.Prelude.{◌≡◌, Ok, ◌*◌, ◌≤◌, ◌<◌};
+ghost use Rattle.wide.specs.Wide.{value};
 ghost use Rattle.record.specs.Refusals.{none};
 ghost use Rattle.variances.specs.Fractions.{gcd as greatestDivisor};
-ghost use Rattle.variances.specs.Answers.{figure_refusal, fraction_answer};
+ghost use Rattle.variances.specs.Answers.{figure_refusal, fraction_answer, allan_fraction_answer, time_fraction_answer};
+ghost use Rattle.variances.specs.Told.{fraction_told};
 
-use crate::FractionAnswer;
-use crate::refusals::figure_refusal;
-use record::Refusal;
+use crate::refusals;
+use record::Refused;
+use sums::Sum;
 use wide::Wide;
 
-// The variance sum / (scale m^2 count) in lowest terms, or what is refused; the scale is 2 for Allan, 6 for time.
-pub(crate) fn variance(scale: u64, sum: Wide, m: u64, count: u64) -> FractionAnswer
-    requires { (0 < scale) × (scale ≤ 6) }
-    ensures { result ≡ fraction_answer (figure_refusal (value sum) m count) (value sum) (scale * (m * m) * count) }
+// A fraction.
+#[derive(Clone, Copy)]
+pub struct Fraction {
+    pub numerator: Wide,
+    pub denominator: u64,
+}
+
+// The Allan variance A / (2 m^2 K) in lowest terms. Refuses 5, 1, 2, then 3.
+pub fn allan_variance(sum: Sum, m: u64) -> Result<Fraction, Refused>
+    ensures { fraction_told result ≡ allan_fraction_answer (value sum.total) m sum.count }
 {
-    let refusal = figure_refusal(sum, m, count);
-    if refusal.number != 0 {
-        return refused(refusal);
-    }
-    lowest(sum, scale * (m * m) * count)
+    variance(2, sum, m)
+}
+
+// The time variance B / (6 m^2 C) in lowest terms. Refuses 5, 1, 2, then 3.
+pub fn time_variance(sum: Sum, m: u64) -> Result<Fraction, Refused>
+    ensures { fraction_told result ≡ time_fraction_answer (value sum.total) m sum.count }
+{
+    variance(6, sum, m)
+}
+
+// The variance total / (scale m^2 count) in lowest terms; the scale is 2 for Allan, 6 for time.
+fn variance(scale: u64, sum: Sum, m: u64) -> Result<Fraction, Refused>
+    requires { (0 < scale) × (scale ≤ 6) }
+    ensures { fraction_told result ≡ fraction_answer (figure_refusal (value sum.total) m sum.count) (value sum.total) (scale * (m * m) * sum.count) }
+{
+    refusals::check(sum, m)?;
+    Ok(lowest(sum.total, scale * (m * m) * sum.count))
 }
 
 // sum / d in lowest terms.
-fn lowest(sum: Wide, d: u64) -> FractionAnswer
+fn lowest(sum: Wide, d: u64) -> Fraction
     requires { 0 < d }
-    ensures { result ≡ fraction_answer none (value sum) d }
+    ensures { fraction_told (Ok result) ≡ fraction_answer none (value sum) d }
 {
-    let first = wide::divided(sum, d);
-    let divisor = gcd(d, first.remainder);
-    let reduced = wide::divided(sum, divisor);
-    let numerator = reduced.quotient;
+    let sum = u128::from(sum);
+    let divisor = gcd(d, (sum % d as u128) as u64);
+    let numerator = Wide::from(sum / divisor as u128);
     let denominator = d / divisor;
-    FractionAnswer {
-        number: 0,
-        place: 0,
+    Fraction {
         numerator,
         denominator,
-    }
-}
-
-// Noughts beside a refusal.
-fn refused(refusal: Refusal) -> FractionAnswer
-    ensures { result ≡ record { number = refusal.number; place = refusal.place; numerator = halves 0; denominator = 0 } }
-{
-    FractionAnswer {
-        number: refusal.number,
-        place: refusal.place,
-        numerator: Wide { hi: 0, lo: 0 },
-        denominator: 0,
     }
 }
 

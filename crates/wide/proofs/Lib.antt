@@ -1,8 +1,4 @@
-pub mod Limbs
-pub mod Carries
-pub mod Complements
 pub mod WideLaws
 pub mod ThreeWordLaws
-pub mod Divisions
 pub mod Roots
 pub mod Unique

@@ -1,7 +1,7 @@
 -- A number and its halves give each other back, and a sum of halves that stays below the top is the halves of the sum.
-use Rattle.std.proofs.Common.{◌≡◌, ℕ, ◌+◌, ◌^◌, ◌<◌, Bool, leb, ap, ◌∙◌, ap₂, lt_of_lt_of_le, mod-eq_of_lt, div-add-mod', lit≤}
-use Rattle.laws.proofs.Halves.{high_half, low_half}
-use Rattle.wide.specs.Wide.{value, halves, wide_sum}
+use Rattle.std.proofs.Common.{◌≡◌, ℕ, ◌+◌, ◌-◌, ◌%◌, ◌^◌, ◌<◌, ◌≤◌, Bool, leb, ap, ◌∙◌, ap₂, lt_of_lt_of_le, mod-eq_of_lt, div-add-mod', lit≤}
+use Rattle.laws.proofs.Halves.{high_half, low_half, difference_within}
+use Rattle.wide.specs.Wide.{value, halves, wide_sum, wide_difference}
 use Rattle.wide.specs.declared.Wide.{Wide}
 
 pub value_of_halves : (n : ℕ) → value (halves n) ≡ n
@@ -34,3 +34,9 @@ sum_grows m n total-is more-is next_is below = next_is ∙ ap₂ wide_sum total-
 -- a test of a wide number is the test of the number whose halves it is
 pub at_most_of_halves : (n limit : ℕ) {p : Wide} {t : Bool} → p ≡ halves n → t ≡ leb (value p) limit → t ≡ leb n limit
 at_most_of_halves n limit p-is t-is = t-is ∙ ap (λ (m : ℕ). leb m limit) (ap value p-is ∙ value_of_halves n)
+
+-- what is not greater is taken away whole
+pub difference_of_halves : (m n : ℕ) → m < 2 ^ 128 → n ≤ m → wide_difference (halves m) (halves n) ≡ halves (m - n)
+unfolding wide_difference
+difference_of_halves m n below under =
+    ap₂ (λ (s t : ℕ). halves ((s + 2 ^ 128 - t) % 2 ^ 128)) (value_of_halves m) (value_of_halves n) ∙ ap halves (difference_within (2 ^ 128) m n below under)

@@ -1,5 +1,5 @@
 -- What a number in two halves stands for, and what each function answers, over plain naturals.
-use Rattle.std.specs.Prelude.{ℕ, ◌+◌, ◌-◌, ◌*◌, ◌/◌, ◌%◌, ◌^◌, true, false, cond, ◌==◌, nat_le}
+use Rattle.std.specs.Prelude.{ℕ, ◌+◌, ◌-◌, ◌*◌, ◌/◌, ◌%◌, ◌^◌, cond, Option, None, Some, ◌==◌, nat_le}
 use Rattle.laws.specs.Greatest.{greatest}
 use Rattle.wide.specs.declared.Wide.{Wide}
 use Rattle.wide.specs.declared.Division.{Division}
@@ -21,10 +21,8 @@ unfoldable pub wide_difference : Wide → Wide → Wide
 wide_difference a b = halves ((value a + 2 ^ 128 - value b) % 2 ^ 128)
 
 -- quotient and remainder; a divisor of nought divides nothing
-unfoldable pub division_of : ℕ → ℕ → Division
-division_of n d =
-    cond (d == 0) (record { defined = false; quotient = halves 0; remainder = 0 })
-    (record { defined = true; quotient = halves (n / d); remainder = n % d })
+unfoldable pub division_of : ℕ → ℕ → Option Division
+division_of n d = cond (d == 0) None (Some (record { quotient = halves (n / d); remainder = n % d }))
 
 -- the greatest r with r * r not above n, for n below 2^128
 unfoldable pub square_root : ℕ → ℕ

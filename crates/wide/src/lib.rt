@@ -3,103 +3,90 @@
 
 #![tactic(auto)]
 
-mod long_division;
 mod three_words;
 
-ghost use Rattle.std.specs.Prelude.{◌≡◌, ◌+◌, ◌-◌, ◌*◌, ◌/◌, ◌%◌, ◌^◌, ◌<◌, leb, if◌then◌else◌, nat_le, unsigned_abs};
+ghost use Rattle.std.specs.Prelude.{◌≡◌, ◌*◌, ◌%◌, ◌^◌, nat_le, unsigned_abs};
 ghost use Rattle.laws.specs.Sums.{square};
 ghost use Rattle.wide.specs.Wide.{value, halves, wide_sum, wide_difference, division_of, square_root};
 
-// hi * 2^64 + lo.
+// hi * 2^64 + lo. The derived order is that of the numbers.
 #[repr(C)]
-#[derive(Clone, Copy)]
+#[derive(Clone, Copy, PartialEq, Eq, PartialOrd, Ord)]
 pub struct Wide {
     pub hi: u64,
     pub lo: u64,
+}
+
+// The two halves of a number of one word.
+impl From<u64> for Wide {
+    ghost from_gives = { λ n w. w ≡ halves n };
+
+    fn from(n: u64) -> Wide {
+        Wide { hi: 0, lo: n }
+    }
+}
+
+// The two halves of a number.
+impl From<u128> for Wide {
+    ghost from_gives = { λ n w. w ≡ halves n };
+
+    fn from(n: u128) -> Wide {
+        Wide {
+            hi: (n >> 64) as u64,
+            lo: (n % HALF) as u64,
+        }
+    }
+}
+
+// The number that two halves stand for.
+impl From<Wide> for u128 {
+    ghost from_gives = { λ w n. n ≡ value w };
+
+    fn from(w: Wide) -> u128 {
+        w.hi as u128 * HALF + w.lo as u128
+    }
 }
 
 // The sum, modulo 2^128. Every caller shows that its own stays below the top.
 pub fn sum(a: Wide, b: Wide) -> Wide
     ensures { result ≡ wide_sum a b }
 {
-    let low = a.lo;
-    let lo = std::num::wrapping_add_u64(low, b.lo);
-    let hi = std::num::wrapping_add_u64(a.hi, b.hi);
-    if lo < low {
-        return Wide {
-            hi: std::num::wrapping_add_u64(hi, 1),
-            lo,
-        };
-    }
-    Wide { hi, lo }
+    Wide::from(u128::from(a).wrapping_add(u128::from(b)))
 }
 
 // The difference, modulo 2^128. Every caller shows that its own does not go below nought.
 pub fn difference(a: Wide, b: Wide) -> Wide
     ensures { result ≡ wide_difference a b }
 {
-    complement(sum(complement(a), b))
+    Wide::from(u128::from(a).wrapping_sub(u128::from(b)))
 }
 
 // Whether a is not above b.
 pub fn at_most(a: Wide, b: Wide) -> bool
     ensures { result ≡ nat_le (value a) (value b) }
 {
-    let high = a.hi;
-    let other = b.hi;
-    let below = a.lo <= b.lo;
-    if high < other {
-        return true;
-    }
-    if other < high {
-        return false;
-    }
-    below
+    a <= b
 }
 
-// The high half of a product of two words, by 32-bit limbs.
-pub(crate) fn product_high(x: u64, y: u64) -> u64
-    ensures { result ≡ x * y / 2 ^ 64 }
-{
-    let x_high = x / LIMB;
-    let x_low = x % LIMB;
-    let y_high = y / LIMB;
-    let y_low = y % LIMB;
-    let first = x_high * y_low + x_low * y_low / LIMB;
-    let second = x_low * y_high + first % LIMB;
-    x_high * y_high + first / LIMB + second / LIMB
-}
-
-// The low half of a product of two words, by 32-bit limbs.
+// The low half of a product of two words.
 pub fn product_low(x: u64, y: u64) -> u64
     ensures { result ≡ x * y % 2 ^ 64 }
 {
-    let x_high = x / LIMB;
-    let x_low = x % LIMB;
-    let y_high = y / LIMB;
-    let y_low = y % LIMB;
-    let first = x_high * y_low + x_low * y_low / LIMB;
-    let second = x_low * y_high + first % LIMB;
-    second % LIMB * LIMB + x_low * y_low % LIMB
+    x.wrapping_mul(y)
 }
 
 // The product of two words.
 pub fn product(x: u64, y: u64) -> Wide
     ensures { result ≡ halves (x * y) }
 {
-    let high = product_high(x, y);
-    let low = product_low(x, y);
-    Wide { hi: high, lo: low }
+    Wide::from(x as u128 * y as u128)
 }
 
 // How far a signed number is from nought.
 pub fn size(z: i64) -> u64
     ensures { result ≡ unsigned_abs z }
 {
-    if z < 0 {
-        return (0 - (z + 1)) as u64 + 1;
-    }
-    z as u64
+    z.unsigned_abs()
 }
 
 // A sum with the square of a signed number more, modulo 2^128.
@@ -110,48 +97,33 @@ pub fn with_square(total: Wide, z: i64) -> Wide
     sum(total, product(side, side))
 }
 
-// What a division answers: where the divisor is nought, `defined` is false and the numbers are noughts.
+// Quotient and remainder.
 #[derive(Clone, Copy)]
 pub struct Division {
-    pub defined: bool,
     pub quotient: Wide,
     pub remainder: u64,
 }
 
-// Quotient and remainder by a word.
-pub fn divided(a: Wide, d: u64) -> Division
+// Quotient and remainder by a word; none where the divisor is nought.
+pub fn divided(a: Wide, d: u64) -> Option<Division>
     ensures { result ≡ division_of (value a) d }
 {
     if d == 0 {
-        return Division {
-            defined: false,
-            quotient: Wide { hi: 0, lo: 0 },
-            remainder: 0,
-        };
+        return None;
     }
-    let hi = a.hi / d;
-    let low = long_division::low_word(a.hi % d, a.lo, d);
-    Division {
-        defined: true,
-        quotient: Wide {
-            hi,
-            lo: low.quotient,
-        },
-        remainder: low.remainder,
-    }
+    let n = u128::from(a);
+    let divisor = d as u128;
+    Some(Division {
+        quotient: Wide::from(n / divisor),
+        remainder: (n % divisor) as u64,
+    })
 }
 
 // The greatest whole number whose square is not above a.
 pub fn root(a: Wide) -> u64
     ensures { result ≡ square_root (value a) }
 {
-    let mut r: u64 = 0;
-    let mut left: u64 = 64;
-    while 0 < left {
-        left -= 1;
-        r = with_bit(r, 1 << left, a);
-    }
-    r
+    u128::from(a).isqrt() as u64
 }
 
 // Whether r * r * d is not above a * 2^40, in three words.
@@ -164,28 +136,5 @@ pub fn square_at_most(r: u64, d: u64, a: Wide) -> bool
     )
 }
 
-// What is left of the top, 2^128 - 1.
-fn complement(a: Wide) -> Wide
-    ensures { result ≡ halves (2 ^ 128 - 1 - value a) }
-{
-    Wide {
-        hi: 18446744073709551615 - a.hi,
-        lo: 18446744073709551615 - a.lo,
-    }
-}
-
-// A word is two limbs.
-const LIMB: u64 = 4294967296;
-
-// r with a further bit, if the square stays within a.
-fn with_bit(r: u64, unit: u64, a: Wide) -> u64
-    requires { r + unit < 2 ^ 64 }
-    ensures { result ≡ (if leb ((r + unit) * (r + unit)) (value a) then r + unit else r) }
-{
-    let next = r + unit;
-    if at_most(product(next, next), a) {
-        next
-    } else {
-        r
-    }
-}
+// What the high half counts in.
+const HALF: u128 = 1 << 64;

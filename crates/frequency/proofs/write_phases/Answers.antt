@@ -1,6 +1,7 @@
 -- `frequency::write_phases` meets its contract, what its invariant leaves to show.
 use native.Mathlib.Omega.{arith}
-use lib.ListN.{length-set}
+use lib.ListN.{length}
+use mathlib.Core.Path.{◌≡◌}
 use mir.Syntax.{w64}
 use mir.Facts.{to_z-of_z, of_z-to_z, Fits-of_z}
 use Rattle.frequency.proofs.FrequencyLaws.{PhasesWritten, no_phase_written, next_phase_fits, one_phase_more, all_phases_written}
@@ -14,9 +15,6 @@ known c = rw (to_z-of_z {w = w64} c.ranges.start, of_z-to_z c.loop-i.auto.phase)
 pub loop-i-init : goal.loop-i-init
 loop-i-init c = rw (to_z-of_z {w = w64} c.ranges.start) (no_phase_written c.args.start _ _)
 
-pub bounds-buffer-i : goal.bounds-buffer-i
-bounds-buffer-i c = let here = known (goal.at.bounds-buffer-i c).At-loop-i in omega (arith, here.same_length)
-
 pub overflow_add-phase : goal.overflow_add-phase
 overflow_add-phase c = next_phase_fits c.requires.0 c.requires.1 c.requires.2 (known (goal.at.overflow_add-phase c).At-loop-i) (omega arith)
 
@@ -26,11 +24,8 @@ loop-i-preserved c =
     rw (to_z-of_z {w = w64} c.ranges.start, of_z-to_z (Fits-of_z (next_phase_fits c.requires.0 c.requires.1 c.requires.2 here (omega arith))))
     (one_phase_more c.requires.0 c.requires.1 c.requires.2 here (omega arith))
 
-pub bounds-buffer-i-2 : goal.bounds-buffer-i-2
-bounds-buffer-i-2 c = let here = known (goal.at.bounds-buffer-i-2 c).At-loop-i in omega (arith, here.same_length, here.within)
-
-pub shape_of-buffer : goal.shape_of-buffer
-shape_of-buffer c = let here = known (goal.at.shape_of-buffer c).At-loop-i in simp length-set (omega (arith, here.same_length))
-
 pub returns : goal.returns
-returns c = all_phases_written c.requires.0 c.requires.1 c.requires.2 (known (goal.at.returns c).At-loop-i) (omega arith)
+returns c =
+    let here = known (goal.at.returns c).At-loop-i in
+    let end : c.loop-i.i ≡ length c.args.readings.now = omega (arith, here.within) in
+    rw end at (all_phases_written c.requires.0 c.requires.1 c.requires.2 here end)

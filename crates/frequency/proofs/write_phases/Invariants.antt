@@ -1,7 +1,5 @@
 -- `frequency::write_phases` meets its contract. The loop's invariant: the phase is the start with the readings below `i` added, and
 -- the first `i` phases are written.
-use Prim.Native.Nat.{◌-◌}
-use lib.ListN.{length}
 use mir.Syntax.{w64}
 use mir.Val.{of_z}
 use Rattle.frequency.proofs.FrequencyLaws.{PhasesWritten}
@@ -9,6 +7,3 @@ use Rattle.frequency.proofs.write_phases.Given as goal
 
 abbrev pub invariant-loop-i : goal.invariant-loop-i
 invariant-loop-i l = PhasesWritten l.start l.readings l.initial.buffer l.buffer (of_z w64 l.phase) l.i
-
-abbrev pub decreases-loop-i : goal.decreases-loop-i
-decreases-loop-i l = length l.readings - l.i

@@ -4,7 +4,7 @@ use Rattle.meter.proofs.AnswerLaws.{part_given, part_refused}
 use Rattle.meter.proofs.part.Goals as goal
 
 pub returns-then-count-lt1 : goal.returns-then-count-lt1
-returns-then-count-lt1 c = part_refused c.args.sum c.args.count (omega arith)
+returns-then-count-lt1 c = part_refused c.args.total c.args.count (omega arith)
 
 pub returns : goal.returns
-returns c = part_given c.args.sum c.args.count (omega arith) (omega (arith, c.well_formed))
+returns c = part_given c.args.total c.args.count (omega arith) (omega (arith, c.well_formed))

@@ -1,5 +1,5 @@
 -- `readings::write_samples` meets its contract, what its invariant leaves to show.
-use mathlib.Core.Path.{refl, ap, ◌∙◌}
+use mathlib.Core.Path.{ap, ◌∙◌}
 use mathlib.Core.Bool.{Bool, true, false, cond}
 use Prim.Native.Nat.{◌≤◌}
 use native.Mathlib.Omega.{arith}
@@ -16,39 +16,13 @@ at_most_one : (t : Bool) → cond t 1 0 ≤ 1
 at_most_one true = omega arith
 at_most_one false = omega arith
 
-pub loop-i-init : goal.loop-i-init
-loop-i-init c = (omega arith, refl, refl, omega arith, omega arith)
-
-pub offset_bounds-readings-i : goal.offset_bounds-readings-i
-offset_bounds-readings-i c = omega arith
-
-pub bounds-readings-i : goal.bounds-readings-i
-bounds-readings-i c = omega arith
-
 pub sample_of-requires : goal.sample_of-requires
 sample_of-requires c =
     unrefused_sample c.args.readings.now (ap (λ (r : Refusal). r.number) c.requires.0) c.loop-i.i (omega arith)
 
-pub offset_bounds-buffer-i : goal.offset_bounds-buffer-i
-offset_bounds-buffer-i c = omega arith
-
-pub bounds-buffer-i : goal.bounds-buffer-i
-bounds-buffer-i c = omega arith
-
 pub counted-changed-requires : goal.counted-changed-requires
 counted-changed-requires c =
     unrefused_sample c.args.readings.now (ap (λ (r : Refusal). r.number) c.requires.0) c.loop-i.i (omega arith)
-
-pub overflow_add-changed : goal.overflow_add-changed
-overflow_add-changed c =
-    let x = get_or c.args.readings.now c.loop-i.i nan in
-    omega (arith, c.loop-i.invariant, c.well_formed, c.counted-changed.ensures, at_most_one (has_fraction x))
-
-pub overflow_add-i : goal.overflow_add-i
-overflow_add-i c = omega arith
-
-pub loop-i-smaller : goal.loop-i-smaller
-loop-i-smaller c = omega arith
 
 pub loop-i-preserved : goal.loop-i-preserved
 loop-i-preserved c =
@@ -60,9 +34,6 @@ loop-i-preserved c =
       omega (arith, c.counted-changed.ensures, one),
       omega (arith, c.counted-changed.ensures, counted_one_more has_fraction xs nan c.loop-i.i c.loop-i.changed (omega arith) c.loop-i.invariant.4),
     )
-
-pub shape_of-buffer : goal.shape_of-buffer
-shape_of-buffer c = omega arith
 
 pub returns : goal.returns
 returns c =

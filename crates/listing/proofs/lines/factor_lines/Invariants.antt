@@ -1,13 +1,7 @@
--- `listing::lines::factor_lines` meets its contract.
-use mathlib.Core.Path.{◌≡◌}
-use Prim.Native.Nat.{◌-◌}
-use lib.ListN.{length}
+-- `listing::lines::factor_lines` meets its contract. The loop's invariant: the first i factors are done.
+use Prim.Native.Nat.{◌^◌}
 use Rattle.listing.proofs.FactorLaws.{Done}
 use Rattle.listing.proofs.lines.factor_lines.Given as goal
 
 abbrev pub invariant-loop-i : goal.invariant-loop-i
-invariant-loop-i l =
-    (length l.text ≡ length l.initial.text) × Done l.samples l.initial.lines.totals.k l.initial.lines.totals.c l.text l.lines.at l.lines.totals.k l.lines.totals.c l.m l.i
-
-abbrev pub decreases-loop-i : goal.decreases-loop-i
-decreases-loop-i l = 11 - l.i
+invariant-loop-i l = Done l.samples l.initial.totals.k l.initial.totals.c l.text l.totals.k l.totals.c (2 ^ l.i) l.i

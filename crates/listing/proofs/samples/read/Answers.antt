@@ -1,73 +1,46 @@
 -- `listing::samples::read` meets its contract.
-use mathlib.Core.Path.{◌≡◌, sym, ap, ◌∙◌}
-use Prim.Native.Nat.{◌≤◌, ◌<◌}
-use native.Mathlib.Omega.{arith}
-use Rattle.record.specs.Refusals.{none}
-use Rattle.record.specs.declared.Refusal.{Refusal}
-use Rattle.phr.specs.Reading.{kind_of, count_of, header_refusal, counted_header_refusal, record_answer}
-use Rattle.phr.specs.declared.RecordAnswer.{RecordAnswer}
-use Rattle.phr.proofs.AnswerCases.{header_told_refused, header_told}
-use Rattle.phr.proofs.ReadCases.{sound_header_none, unrefused_counted_header}
+use Rattle.std.proofs.Common.{◌≡◌, ◌≤◌, refl, sym, ap, ◌∙◌, arith}
+use Rattle.std.proofs.lemmas.Result.{err_from_is_err_and}
+use Rattle.record.proofs.AnswerLaws.{error_value, value_refused}
+use Rattle.phr.specs.Kinds.{number_of_kind}
+use Rattle.phr.specs.Reading.{kind_of, count_of}
 use Rattle.listing.specs.Sheet.{sheet_most}
-use Rattle.listing.proofs.SheetCases.{first_refuses, refused_whole, header_stands, too_many_on_sheet, phase_samples, frequency_samples, phase_answer, frequency_answer}
+use Rattle.listing.proofs.SheetCases.{HeaderTold, header_there, header_error, first_refuses, too_many_on_sheet, phase_samples, frequency_samples, phase_answer, frequency_answer}
 use Rattle.listing.proofs.samples.read.Goals as goal
-use Rattle.listing.proofs.samples.read.Goals.{After-most, Else-most-header, Else-number-ne0}
+use Rattle.listing.proofs.samples.read.Goals.{After-most}
 
-sound_there : (c : Else-number-ne0) → (header_refusal (c.args.bytes.now)).number ≡ 0
-sound_there c =
-    let header_there_here : ((counted_header_refusal (c.args.bytes.now)).number ≡ 0) × (c.read_header-header.result ≡ record_answer none (c.args.bytes.now)) =
-    header_told _ c.read_header-header.ensures c.if-number-ne0.false in
-    ap (λ (r : Refusal). r.number) (sound_header_none _ (unrefused_counted_header _ (header_there_here).0).0)
+told_there : (c : After-most) → HeaderTold c.args.bytes.now c.in_ok-header.header
+told_there c = header_there _ c.in_ok-header.ensures
 
-kind_there : (c : Else-number-ne0) → c.read_header-header.result.kind ≡ kind_of (c.args.bytes.now)
-kind_there c =
-    let header_there_here : ((counted_header_refusal (c.args.bytes.now)).number ≡ 0) × (c.read_header-header.result ≡ record_answer none (c.args.bytes.now)) =
-    header_told _ c.read_header-header.ensures c.if-number-ne0.false in
-    ap (λ (a : RecordAnswer). a.kind) (header_there_here).1
+most_there : (c : After-most) → c.most.result ≡ sheet_most (kind_of c.args.bytes.now)
+most_there c = c.most.ensures ∙ ap sheet_most (told_there c).kind
 
-count_there : (c : Else-number-ne0) → c.read_header-header.result.count ≡ count_of (c.args.bytes.now)
-count_there c =
-    let header_there_here : ((counted_header_refusal (c.args.bytes.now)).number ≡ 0) × (c.read_header-header.result ≡ record_answer none (c.args.bytes.now)) =
-    header_told _ c.read_header-header.ensures c.if-number-ne0.false in
-    ap (λ (a : RecordAnswer). a.count) (header_there_here).1
+pub returns-in_err-header-clause-value : goal.returns-in_err-header-clause-value
+returns-in_err-header-clause-value c =
+    let p = err_from_is_err_and c.from_residual.result c.from_residual.ensures.1 in
+    rw (p.1, p.2) (error_value _ _ (header_error _ _ c.in_err-header.ensures))
 
-most_there : (c : After-most) → c.most.result ≡ sheet_most (kind_of (c.args.bytes.now))
-most_there c =
-    let header_there_here : ((counted_header_refusal (c.args.bytes.now)).number ≡ 0) × (c.read_header-header.result ≡ record_answer none (c.args.bytes.now)) =
-    header_told _ c.read_header-header.ensures c.if-number-ne0.false in
-    let kind_there_here : c.read_header-header.result.kind ≡ kind_of (c.args.bytes.now) = ap (λ (a : RecordAnswer). a.kind) (header_there_here).1 in
-    c.most.ensures ∙ ap sheet_most (kind_there_here)
+pub returns-then-most-header-clause-value : goal.returns-then-most-header-clause-value
+returns-then-most-header-clause-value c =
+    let known = (goal.at.returns-then-most-header-clause-value c).After-most in
+    let many = too_many_on_sheet _ (told_there known).sound (omega (arith, c.if-most-header.true, most_there known, (told_there known).count)) in
+    rw c.at.ensures (value_refused _ 2 0 (omega arith) (first_refuses _ _ 2 0 (omega arith) many) refl)
 
-few_there : (c : Else-most-header) → let bytes = c.args.bytes.now in count_of bytes ≤ sheet_most (kind_of bytes)
-few_there c =
-    let header_there_here : ((counted_header_refusal (c.args.bytes.now)).number ≡ 0) × (c.read_header-header.result ≡ record_answer none (c.args.bytes.now)) =
-    header_told _ c.read_header-header.ensures c.if-number-ne0.false in
-    let kind_there_here : c.read_header-header.result.kind ≡ kind_of (c.args.bytes.now) = ap (λ (a : RecordAnswer). a.kind) (header_there_here).1 in
-    let most_there_here : c.most.result ≡ sheet_most (kind_of (c.args.bytes.now)) = c.most.ensures ∙ ap sheet_most (kind_there_here) in
-    let count_there_here : c.read_header-header.result.count ≡ count_of (c.args.bytes.now) = ap (λ (a : RecordAnswer). a.count) (header_there_here).1 in
-    omega (arith, c.if-most-header.false, most_there_here, count_there_here)
-
-pub returns-then-number-ne0 : goal.returns-then-number-ne0
-returns-then-number-ne0 c =
-    let answer = c.read_header-header.result in
-    let some = c.if-number-ne0.true in
-    let header = header_told_refused _ c.read_header-header.ensures some in
-    let numbered : 0 < answer.number = omega (arith, some) in
-    refused_whole _ _ answer.number answer.place numbered (first_refuses _ _ _ _ numbered (header_stands _ (λ e. some (rw header at e)) ∙ header)) c.refused_count.ensures
-
-pub returns-then-most-header : goal.returns-then-most-header
-returns-then-most-header c =
-    let many = too_many_on_sheet _ (sound_there (goal.at.returns-then-most-header c).Else-number-ne0) (omega (arith, c.if-most-header.true, most_there (goal.at.returns-then-most-header c).After-most, count_there (goal.at.returns-then-most-header c).Else-number-ne0)) in
-    refused_whole _ _ 2 0 (omega arith) (first_refuses _ _ 2 0 (omega arith) many) c.refused_count-then-most-header.ensures
-
-pub returns-then-header-eq0 : goal.returns-then-header-eq0
-returns-then-header-eq0 c =
-    let kind = sym (kind_there (goal.at.returns-then-header-eq0 c).Else-number-ne0) ∙ c.if-header-eq0.true in
+pub returns-in-Phase : goal.returns-in-Phase
+returns-in-Phase c =
+    let known = (goal.at.returns-in-Phase c).After-most in
+    let told = told_there known in
+    let kind : kind_of c.args.bytes.now ≡ 0 = sym told.kind ∙ ap number_of_kind c.in-Phase.is in
+    let few : count_of c.args.bytes.now ≤ sheet_most (kind_of c.args.bytes.now) = omega (arith, c.if-most-header.false, most_there known, told.count) in
     let p = c.phase.ensures in
-    (p.0 ∙ phase_answer _ (sound_there (goal.at.returns-then-header-eq0 c).Else-number-ne0) (few_there (goal.at.returns-then-header-eq0 c).Else-most-header) kind, rw (← phase_samples _ kind) at p.1)
+    record { value = p.value ∙ phase_answer _ told.sound few kind; in_front = rw (phase_samples _ kind) p.in_front }
 
-pub returns : goal.returns
-returns c =
-    let kind : kind_of (c.args.bytes.now) ≡ 0 → ⊥ = λ z. c.if-header-eq0.false (kind_there (goal.at.returns c).Else-number-ne0 ∙ z) in
+pub returns-in-Frequency : goal.returns-in-Frequency
+returns-in-Frequency c =
+    let known = (goal.at.returns-in-Frequency c).After-most in
+    let told = told_there known in
+    let kind : kind_of c.args.bytes.now ≡ 1 = sym told.kind ∙ ap number_of_kind c.in-Frequency.is in
+    let some : kind_of c.args.bytes.now ≡ 0 → ⊥ = λ z. omega arith in
+    let few : count_of c.args.bytes.now ≤ sheet_most (kind_of c.args.bytes.now) = omega (arith, c.if-most-header.false, most_there known, told.count) in
     let p = c.frequency.ensures in
-    (p.0 ∙ frequency_answer _ (sound_there (goal.at.returns c).Else-number-ne0) (few_there (goal.at.returns c).Else-most-header) kind, rw (← frequency_samples _ kind) at p.1)
+    record { value = p.value ∙ frequency_answer _ told.sound few some; in_front = rw (frequency_samples _ some) p.in_front }

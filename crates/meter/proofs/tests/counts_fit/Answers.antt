@@ -1,14 +1,12 @@
 -- `meter::tests::counts_fit` meets its contract.
-use mathlib.Core.Path.{sym}
-use native.Mathlib.Omega.{arith}
-use Rattle.meter.proofs.TestLaws.{stretch_fails, k_fails, c_decides}
+use Rattle.std.proofs.Common.{arith}
+use Rattle.meter.specs.Meter.{counts_fit}
 use Rattle.meter.proofs.tests.counts_fit.Goals as goal
 
-pub returns-then-n-meter : goal.returns-then-n-meter
-returns-then-n-meter c = sym (stretch_fails _ (omega arith))
+pub returns-then-meter-n-2 : goal.returns-then-meter-n-2
+unfolding counts_fit
+returns-then-meter-n-2 c = grind arith
 
-pub returns-then-n-meter-2 : goal.returns-then-n-meter-2
-returns-then-n-meter-2 c = sym (k_fails _ (omega arith) (omega arith))
-
-pub returns : goal.returns
-returns c = sym (c_decides _ (omega arith) (omega arith))
+pub returns-else-meter-n-2 : goal.returns-else-meter-n-2
+unfolding counts_fit
+returns-else-meter-n-2 c = grind arith

@@ -16,15 +16,16 @@ returns-then-n-gt-MOST_SAMPLES c = sym (too_many_fails _ (omega arith) (omega ar
 pub returns-then-window_within : goal.returns-then-window_within
 returns-then-window_within c =
     let x = c.args.meter in
-    let within = window_decided x.window c.struct_told-1.given.1.1.1.1.1.1.1.0.1 _ c.window_within.ensures c.if-window_within.true in
+    let within = window_decided x.window (omega (arith, c.well_formed)) _ c.window_within.ensures c.if-window_within.true in
     c.high_halves_hold.ensures
-    ∙ sym (window_and_halves_decide x (omega arith) (omega arith) (omega arith) (sym c.counts_fit.ensures ∙ c.if-counts_fit.true) within)
+    ∙ sym (window_and_halves_decide x (omega arith) (omega arith) (omega arith) (sym c.counts_fit.ensures ∙ c.if-not-counts_fit.false) within)
 
 pub returns-else-window_within : goal.returns-else-window_within
 returns-else-window_within c =
     let x = c.args.meter in
-    let beyond = window_decided x.window c.struct_told-1.given.1.1.1.1.1.1.1.0.1 _ c.window_within.ensures c.if-window_within.false in
-    sym (window_and_halves_decide x (omega arith) (omega arith) (omega arith) (sym c.counts_fit.ensures ∙ c.if-counts_fit.true) beyond)
+    let beyond = window_decided x.window (omega (arith, c.well_formed)) _ c.window_within.ensures c.if-window_within.false in
+    c.if-window_within.false
+    ∙ sym (window_and_halves_decide x (omega arith) (omega arith) (omega arith) (sym c.counts_fit.ensures ∙ c.if-not-counts_fit.false) beyond)
 
-pub returns-else-counts_fit : goal.returns-else-counts_fit
-returns-else-counts_fit c = sym (counts_fail _ (omega arith) (omega arith) (omega arith) (sym c.counts_fit.ensures ∙ c.if-counts_fit.false))
+pub returns-then-not-counts_fit : goal.returns-then-not-counts_fit
+returns-then-not-counts_fit c = sym (counts_fail _ (omega arith) (omega arith) (omega arith) (sym c.counts_fit.ensures ∙ c.if-not-counts_fit.true))

@@ -12,6 +12,6 @@ pub returns-then-holds_together : goal.returns-then-holds_together
 returns-then-holds_together c =
     sym (length_decides c.args.meter c.args.ring.now (sym c.holds_together.ensures ∙ c.if-holds_together.true))
 
-pub returns : goal.returns
-returns c =
-    sym (meter_decides c.args.meter c.args.ring.now (sym c.holds_together.ensures ∙ c.if-holds_together.false))
+pub returns-else-holds_together : goal.returns-else-holds_together
+returns-else-holds_together c =
+    c.if-holds_together.false ∙ sym (meter_decides c.args.meter c.args.ring.now (sym c.holds_together.ensures ∙ c.if-holds_together.false))

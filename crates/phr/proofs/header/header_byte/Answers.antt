@@ -1,5 +1,5 @@
 -- `phr::header::header_byte` meets its contract: each place has its test.
-use Rattle.std.proofs.Common.{sym, arith}
+use Rattle.std.proofs.Common.{sym, arith, eq-eqb, ne_eqb}
 use Rattle.phr.specs.Reading.{tests_of}
 use Rattle.phr.proofs.HeaderLaws.{no_test_past_kind}
 use Rattle.phr.proofs.header.header_byte.Goals as goal
@@ -16,9 +16,13 @@ pub returns-in-2 : goal.returns-in-2
 unfolding tests_of
 returns-in-2 c = rw c.in-2.is
 
-pub returns-in-3 : goal.returns-in-3
+pub returns-then-b-eq1 : goal.returns-then-b-eq1
 unfolding tests_of
-returns-in-3 c = rw c.in-3.is c.version_known.ensures
+returns-then-b-eq1 c = rw (c.in-3.is, eq-eqb _ 1 c.if-b-eq1.true)
+
+pub returns-else-b-eq1 : goal.returns-else-b-eq1
+unfolding tests_of
+returns-else-b-eq1 c = rw (c.in-3.is, ne_eqb _ 1 c.if-b-eq1.false)
 
 pub returns-in-4 : goal.returns-in-4
 unfolding tests_of

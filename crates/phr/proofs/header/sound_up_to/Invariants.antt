@@ -1,12 +1,9 @@
 -- `phr::header::sound_up_to` meets its contract. The loop's invariant: no byte before the place is wrong.
-use Rattle.std.proofs.Common.{◌≡◌, ◌+◌, ◌-◌, ◌≤◌, length, drop}
+use Rattle.std.proofs.Common.{◌≡◌, ◌+◌, drop}
 use Rattle.phr.specs.Reading.{sound_up_to}
 use Rattle.phr.proofs.HeaderLaws.{tests_up_to}
 use Rattle.phr.proofs.header.sound_up_to.Given as goal
 
 abbrev pub invariant-loop-place : goal.invariant-loop-place
 invariant-loop-place l =
-    let tests = tests_up_to l.newest in (l.place ≤ 8) × (l.place ≤ length l.bytes) × (sound_up_to tests l.bytes ≡ l.place + sound_up_to (drop l.place tests) (drop l.place l.bytes))
-
-abbrev pub decreases-loop-place : goal.decreases-loop-place
-decreases-loop-place l = 8 - l.place
+    let tests = tests_up_to l.newest in sound_up_to tests l.bytes ≡ l.place + sound_up_to (drop l.place tests) (drop l.place l.bytes)

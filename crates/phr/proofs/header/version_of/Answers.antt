@@ -4,4 +4,4 @@ use Rattle.phr.proofs.header.version_of.Goals as goal
 
 pub returns : goal.returns
 unfolding version_of
-returns c = c.word.ensures.0
+returns c = c.from.ensures

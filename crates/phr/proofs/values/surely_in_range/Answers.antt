@@ -1,36 +1,22 @@
 -- `phr::values::surely_in_range` meets its contract, what its invariant leaves to show.
-use Rattle.std.proofs.Common.{arith, leb-true}
+use Rattle.std.proofs.Common.{◌^◌, ◌%◌, ◌+◌, ap, ◌∙◌, arith, leb-true}
 use Rattle.laws.proofs.Words.{one_more_reached}
+use Rattle.phr.specs.Kinds.{number_of_kind}
+use Rattle.phr.proofs.ChunkLaws.{chunk_word}
 use Rattle.phr.proofs.RangeCases.{end_within}
 use Rattle.phr.proofs.RangePass.{moved_up, all_in_range}
 use Rattle.phr.proofs.values.surely_in_range.Goals as goal
 
-pub loop-i-init : goal.loop-i-init
-loop-i-init c = (omega arith, λ k h. absurd (omega arith))
-
-pub overflow_mul-i : goal.overflow_mul-i
-overflow_mul-i c = omega arith
-
-pub overflow_add-place : goal.overflow_add-place
-overflow_add-place c = omega arith
-
-pub word_at-requires : goal.word_at-requires
-word_at-requires c = omega arith
-
-pub overflow_add-i : goal.overflow_add-i
-overflow_add-i c = omega arith
-
-pub loop-i-smaller : goal.loop-i-smaller
-loop-i-smaller c = omega arith
-
-pub loop-i-preserved : goal.loop-i-preserved
-loop-i-preserved c =
+pub loop-chunk-preserved : goal.loop-chunk-preserved
+loop-chunk-preserved c =
     let a = c.args in
-    (omega arith, one_more_reached (moved_up c.end_of-end.result a.place a.bytes.now) c.loop-i.i c.loop-i.reached c.loop-i.invariant.1 (omega arith))
+    let word = chunk_word a.place a.count a.bytes.now c.requires c.chunks_from-chunk-items.ensures.1 c.loop-chunk.chunk-index (omega arith) in
+    one_more_reached (moved_up c.end-end.result a.place a.bytes.now) c.loop-chunk.chunk-index c.loop-chunk.reached c.loop-chunk.invariant
+    (ap (λ n. (n + c.end-end.result) % 2 ^ 64) (c.from_le_bytes.ensures ∙ word))
 
 pub overflow_mul-result : goal.overflow_mul-result
-overflow_mul-result c = omega (arith, end_within c.args.kind)
+overflow_mul-result c = omega (arith, end_within (number_of_kind c.args.kind))
 
 pub returns : goal.returns
 returns c t =
-    all_in_range c.args.kind c.args.place c.args.count c.args.bytes.now (λ k. (c.shared_slice_known-1.given k).fits) c.requires c.end_of-end.ensures c.loop-i.i c.loop-i.reached c.loop-i-test.false c.loop-i.invariant.1 (leb-true _ _ t)
+    all_in_range (number_of_kind c.args.kind) c.args.place c.args.count c.args.bytes.now (λ k. (c.type_inv.bytes k).fits) c.requires c.end-end.ensures c.loop-chunk.chunk-index c.loop-chunk.reached (omega arith) c.loop-chunk.invariant (leb-true _ _ t)

@@ -1,9 +1,6 @@
 -- `phr::values::value_at` meets its contract.
-use Rattle.std.proofs.Common.{ap, ◌∙◌}
-use Rattle.phr.specs.Bytes.{signed, value_at}
-use Rattle.phr.proofs.SignLaws.{loaded_value}
+use Rattle.phr.proofs.ChunkLaws.{one_chunk_value}
 use Rattle.phr.proofs.values.value_at.Goals as goal
 
 pub returns : goal.returns
-unfolding value_at
-returns c = loaded_value _ c.signed.type_inv ∙ c.signed.ensures ∙ ap signed c.word_at.ensures
+returns c = one_chunk_value c.args.place c.args.bytes.now c.requires c.chunks_from.ensures.1 c.from_le_bytes.ensures c.from_le_bytes.type_inv

@@ -4,4 +4,4 @@ use Rattle.ploegelster.specs.Boundary.{told_dot}
 use Rattle.ploegelster.proofs.drawing.plg_allan_dot.Goals as goal
 
 pub returns : goal.returns
-returns c = c.told_dot.ensures ∙ ap told_dot c.allan_dot.ensures
+returns c = c.from.ensures ∙ ap told_dot c.allan_dot.ensures

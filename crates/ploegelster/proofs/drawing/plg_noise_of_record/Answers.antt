@@ -4,4 +4,4 @@ use Rattle.ploegelster.specs.Boundary.{told_noise}
 use Rattle.ploegelster.proofs.drawing.plg_noise_of_record.Goals as goal
 
 pub returns : goal.returns
-returns c = c.told_noise.ensures ∙ ap told_noise c.noise_of_record.ensures
+returns c = c.from.ensures ∙ ap told_noise c.of_record.ensures

@@ -4,4 +4,4 @@ use Rattle.ploegelster.specs.Boundary.{told_noise}
 use Rattle.ploegelster.proofs.drawing.plg_noise_type.Goals as goal
 
 pub returns : goal.returns
-returns c = c.told_noise.ensures ∙ ap told_noise c.noise_type.ensures
+returns c = c.from.ensures ∙ ap told_noise c.by_deviations.ensures

@@ -1,21 +1,8 @@
 -- `plot::dots::dot_of` meets its contract.
-use Rattle.std.proofs.Common.{sym, ap, ◌∙◌}
-use lib.Ieee.{Float}
-use Rattle.plot.specs.declared.dots.Dot.TheVariants.{Drawn}
-use Rattle.plot.proofs.DotLaws.{given_dot, nought_dot, drawn_dot, too_few_dot, refused_dot}
 use Rattle.plot.proofs.dots.dot_of.Goals as goal
 
-pub returns-then-r-eq0 : goal.returns-then-r-eq0
-returns-then-r-eq0 c = c.answered.ensures ∙ sym (nought_dot _ c.if-number-eq0.true c.if-r-eq0.true)
+pub returns-in-Ok : goal.returns-in-Ok
+returns-in-Ok c = rw c.in-Ok.is c.of_units.ensures
 
-pub returns-then-number-eq0 : goal.returns-then-number-eq0
-returns-then-number-eq0 c =
-    c.answered-then-number-eq0.ensures
-    ∙ ap (λ (x : Float). given_dot (Drawn x)) c.draw.ensures
-    ∙ sym (drawn_dot _ c.if-number-eq0.true c.if-r-eq0.false)
-
-pub returns-then-number-eq-TOO_FEW : goal.returns-then-number-eq-TOO_FEW
-returns-then-number-eq-TOO_FEW c = c.answered-then-number-eq-TOO_FEW.ensures ∙ sym (too_few_dot _ c.if-number-eq-TOO_FEW.true)
-
-pub returns : goal.returns
-returns c = sym (refused_dot _ c.if-number-eq0.false c.if-number-eq-TOO_FEW.false)
+pub returns-in-Err : goal.returns-in-Err
+returns-in-Err c = rw c.in-Err.is c.too_few_or.ensures

@@ -1,9 +1,10 @@
 -- `readings::reading::counted` meets its contract.
-use mathlib.Core.Path.{◌≡◌, sym, subst, ap, ◌∙◌}
-use mathlib.Core.Bool.{Bool, cond}
+use mathlib.Core.Path.{◌≡◌, refl, sym, subst, ap, ◌∙◌}
+use mathlib.Core.Bool.{Bool, true, false, cond}
 use Prim.Native.Nat.{ℕ}
 use lib.Dec.{T}
 use lib.Ieee.{binary64, fits}
+use mir.Val.{bool_byte}
 use Rattle.readings.specs.Readings.{has_fraction}
 use Rattle.readings.proofs.BitLaws.{by_fields, is_number, fields_in_range}
 use Rattle.readings.proofs.reading.counted.Goals as goal
@@ -23,8 +24,10 @@ float_to_bits-bits c = is_number _ (held (goal.at.float_to_bits-bits c).Start) c
 pub has_fraction-requires : goal.has_fraction-requires
 has_fraction-requires c = fields_in_range _ (held (goal.at.has_fraction-requires c).Start) c.requires
 
-pub returns-then-has_fraction : goal.returns-then-has_fraction
-returns-then-has_fraction c = sym (ap (λ (t : Bool). cond {A = ℕ} t 1 0) (tested (goal.at.returns-then-has_fraction c).After-has_fraction ∙ c.if-has_fraction.true))
+-- a test told as 1 or 0
+told : (t : Bool) → bool_byte t ≡ cond t 1 0
+told true = refl
+told false = refl
 
 pub returns : goal.returns
-returns c = sym (ap (λ (t : Bool). cond {A = ℕ} t 1 0) (tested (goal.at.returns c).After-has_fraction ∙ c.if-has_fraction.false))
+returns c = c.from.ensures ∙ told _ ∙ sym (ap (λ (t : Bool). cond {A = ℕ} t 1 0) (tested (goal.at.returns c).After-has_fraction))

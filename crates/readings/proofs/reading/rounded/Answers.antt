@@ -2,7 +2,7 @@
 use mathlib.Core.Path.{◌≡◌, sym, ap, ◌∙◌}
 use Prim.Native.Nat.{ℕ, ◌+◌, ◌-◌, ◌*◌, ◌^◌}
 use native.Mathlib.Omega.{arith}
-use lib.Pow.{pow-add, pow_pos, shr_le}
+use lib.Pow.{pow-add, pow_pos}
 use Rattle.laws.proofs.Halves.{power_doubles}
 use Rattle.laws.proofs.Rounding.{closest_above, closest_not_above}
 use Rattle.readings.proofs.reading.rounded.Goals as goal
@@ -13,9 +13,6 @@ half_is : (c : Start) → 2 ^ (c.args.k - 1) * 2 ^ (64 - c.args.k) ≡ 2 ^ 63
 half_is c =
     let k = c.args.k in
     sym (pow-add 2 (k - 1) (64 - k)) ∙ ap (λ (t : ℕ). 2 ^ t) (let same : k - 1 + (64 - k) ≡ 63 = omega (arith, c.requires) in same)
-
-pub overflow_add-result : goal.overflow_add-result
-overflow_add-result c = omega (arith, c.requires, shr_le c.args.n c.args.k)
 
 pub returns-then-whole-rest : goal.returns-then-whole-rest
 returns-then-whole-rest c =

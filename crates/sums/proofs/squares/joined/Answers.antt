@@ -7,4 +7,4 @@ pub returns : goal.returns
 returns c =
     let p = c.args.parts in
     parts_joined p.high p.cross p.low (omega arith) (omega arith) (omega arith)
-    c.product.ensures c.product-2.ensures c.sum-upper.ensures c.sum.ensures
+    c.product.ensures c.product-2.ensures c.sum-upper.ensures c.from.ensures c.sum.ensures

@@ -9,35 +9,25 @@ use Rattle.variances.specs.Deviations.{within}
 use Rattle.variances.proofs.DeviationLaws.{found_by_bits}
 use Rattle.variances.proofs.deviations.by_bits.Goals as goal
 
-pub loop-left-init : goal.loop-left-init
-loop-left-init c = (omega arith, omega arith, refl)
-
-pub overflow_sub-left : goal.overflow_sub-left
-overflow_sub-left c = omega arith
-
-pub overflow_shl-left : goal.overflow_shl-left
-overflow_shl-left c = omega arith
+pub loop-bit-init : goal.loop-bit-init
+loop-bit-init c = (omega arith, refl)
 
 pub with_bit-r-requires : goal.with_bit-r-requires
 with_bit-r-requires c =
-    let h = c.loop-left in
-    bit_fits h.left (omega arith) (omega arith) h.r (omega arith)
+    let h = c.loop-bit in
+    bit_fits h.bit (omega arith) (omega arith) h.r (omega arith)
 
-pub loop-left-smaller : goal.loop-left-smaller
-loop-left-smaller c = omega arith
-
-pub loop-left-preserved : goal.loop-left-preserved
-loop-left-preserved c =
-    let h = c.loop-left in
+pub loop-bit-preserved : goal.loop-bit-preserved
+loop-bit-preserved c =
+    let h = c.loop-bit in
     let x = c.args in
     let test = within (value x.sum) x.d in
-    let made = bit_is h.left (omega arith) (omega arith) in (
-      omega arith,
-      turn_leaves_room test h.left (omega arith) h.r made c.with_bit-r.ensures (2 ^ 63) h.invariant.1,
-      turn_keeps_bits test h.left (omega arith) h.r made c.with_bit-r.ensures ∙ h.invariant.2,
+    let made = bit_is h.bit (omega arith) (omega arith) in (
+      turn_leaves_room test h.bit (omega arith) h.r made c.with_bit-r.ensures (2 ^ 63) h.invariant.0,
+      turn_keeps_bits test h.bit (omega arith) h.r made c.with_bit-r.ensures ∙ h.invariant.1,
     )
 
 pub returns : goal.returns
 returns c =
-    let h = c.loop-left in
-    found_by_bits (value c.args.sum) c.args.d c.requires.0 c.requires.1 c.requires.2 h.left h.r (omega arith) h.invariant.2
+    let h = c.loop-bit in
+    found_by_bits (value c.args.sum) c.args.d c.requires.0 c.requires.1 c.requires.2 h.bit h.r (omega arith) h.invariant.1

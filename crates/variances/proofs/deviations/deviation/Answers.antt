@@ -7,7 +7,7 @@ use Rattle.variances.proofs.deviations.deviation.Goals as goal
 
 pub returns-then-square_at_most : goal.returns-then-square_at_most
 returns-then-square_at_most c =
-    sym (above_refused _ (passes_so_above (value c.args.sum) c.args.d c.requires.0 c.requires.1 (sym c.square_at_most.ensures ∙ c.if-square_at_most.true)))
+    rw c.at.ensures (sym (above_refused _ (passes_so_above (value c.args.sum) c.args.d c.requires.0 c.requires.1 (sym c.square_at_most.ensures ∙ c.if-square_at_most.true))))
 
 pub by_bits-requires : goal.by_bits-requires
 by_bits-requires c =

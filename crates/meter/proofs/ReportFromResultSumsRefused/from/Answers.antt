@@ -1,0 +1,8 @@
+-- `meter::Report::from` says what its impl does.
+use mathlib.Core.Path.{refl}
+use Rattle.sums.specs.Answers.{no_part}
+use Rattle.meter.proofs.ReportFromResultSumsRefused.from.Goals as goal
+
+pub returns-in-Err : goal.returns-in-Err
+unfolding no_part
+returns-in-Err c = rw (c.in-Err.is, c.into-in-Err.ensures) refl

@@ -1,9 +1,0 @@
--- `phr::values::end_of` meets its contract.
-use Rattle.std.proofs.Common.{eq-eqb, ne_eqb}
-use Rattle.phr.proofs.values.end_of.Goals as goal
-
-pub returns-then-kind-eq0 : goal.returns-then-kind-eq0
-returns-then-kind-eq0 c = rw (eq-eqb c.args.kind 0 c.if-kind-eq0.true)
-
-pub returns : goal.returns
-returns c = rw (ne_eqb c.args.kind 0 c.if-kind-eq0.false)

@@ -1,0 +1,11 @@
+-- `plot::dots::dot_of_time` meets its contract.
+use Rattle.std.proofs.Common.{ap, ◌∙◌}
+use Rattle.plot.specs.Dots.{dot_answer}
+use Rattle.plot.proofs.DotLaws.{time_at_most}
+use Rattle.plot.proofs.dots.dot_of_time.Goals as goal
+
+pub dot_of-requires : goal.dot_of-requires
+dot_of-requires c = rw c.time_root.ensures (time_at_most _ _ _)
+
+pub returns : goal.returns
+returns c = c.dot_of.ensures ∙ ap dot_answer c.time_root.ensures

@@ -1,0 +1,20 @@
+-- `readings::check` meets its contract.
+use Rattle.std.proofs.Common.{sym, ◌∙◌, arith}
+use Rattle.std.proofs.lemmas.Result.{err_from_is_err_and}
+use Rattle.record.proofs.ToldLaws.{refuses, refuses_nothing}
+use Rattle.readings.proofs.RefusalLaws.{size_refuses, no_room, readings_decide}
+use Rattle.readings.proofs.check.Goals as goal
+
+pub returns-in_err-check_size : goal.returns-in_err-check_size
+returns-in_err-check_size c =
+    let size = c.in_err-check_size.ensures in
+    let p = err_from_is_err_and c.from_residual.result c.from_residual.ensures.1 in
+    rw (p.1, p.2) (size ∙ sym (size_refuses _ _ _ (refuses _ size)))
+
+pub returns-then-room-count : goal.returns-then-room-count
+returns-then-room-count c =
+    rw c.at.ensures (sym (no_room _ _ _ (refuses_nothing c.in_ok-check_size.ensures) (omega arith)))
+
+pub returns : goal.returns
+returns c =
+    c.check_readings.ensures ∙ sym (readings_decide _ _ _ (refuses_nothing c.in_ok-check_size.ensures) (omega arith))

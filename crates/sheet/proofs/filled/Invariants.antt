@@ -1,6 +1,0 @@
-use Rattle.std.proofs.Common.{◌≤◌, length}
-use Rattle.sheet.proofs.filled.Given as goal
-
--- What was read lies in the room.
-abbrev pub invariant-loop : goal.invariant-loop
-invariant-loop l = l.done ≤ length l.bytes
