@@ -48,6 +48,14 @@ use Rattle.noise.specs.declared.NoiseAnswer.{NoiseAnswer}
 abbrev pub index_of : Noise → ℕ
 index_of t = nat_abs (pos 2 -ℤ alpha_of t)
 
+pub index_within : (t : Noise) → index_of t < 5
+unfolding alpha_of
+index_within WhitePhase = omega arith
+index_within FlickerPhase = omega arith
+index_within WhiteFrequency = omega arith
+index_within FlickerFrequency = omega arith
+index_within RandomWalkFrequency = omega arith
+
 -- ---- the table of kappa
 
 abbrev pub kappas : List ℕ
