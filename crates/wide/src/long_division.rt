@@ -36,8 +36,8 @@ fn two_digits(n: u128, d: u64) -> Step
     requires { (2 ^ 63 ≤ d) × (n < d * 2 ^ 64) }
     ensures { (result.quotient ≡ n / d) × (result.remainder ≡ n % d) }
 {
-    let first = digit(n >> 32, d);
-    let second = digit(first.remainder as u128 * DIGIT + n % DIGIT, d);
+    let first = one_digit(n >> 32, d);
+    let second = one_digit(first.remainder as u128 * DIGIT + n % DIGIT, d);
     Step {
         quotient: first.quotient * DIGIT as u64 + second.quotient,
         remainder: second.remainder,
@@ -45,7 +45,7 @@ fn two_digits(n: u128, d: u64) -> Step
 }
 
 // Quotient and remainder of n by d, which has its top bit. The quotient is one digit.
-fn digit(n: u128, d: u64) -> Step
+fn one_digit(n: u128, d: u64) -> Step
     requires { (2 ^ 63 ≤ d) × (n < d * 2 ^ 32) }
     ensures { (result.quotient ≡ n / d) × (result.remainder ≡ n % d) }
 {

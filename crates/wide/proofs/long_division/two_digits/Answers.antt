@@ -6,12 +6,12 @@ use Rattle.wide.proofs.long_division.two_digits.Goals as goal
 
 pub overflow_add-result : goal.overflow_add-result
 overflow_add-result c =
-    let first = c.digit-first.ensures in
+    let first = c.one_digit-first.ensures in
     let below : c.args.n / c.args.d < 2 ^ 64 = high_part_below (2 ^ 64) c.args.d c.args.n (omega arith) (omega arith) in
-    omega (arith, quotient_by_digits (2 ^ 32) c.args.n (omega arith) first.0 first.1 c.digit-second.ensures.0)
+    omega (arith, quotient_by_digits (2 ^ 32) c.args.n (omega arith) first.0 first.1 c.one_digit-second.ensures.0)
 
 pub returns : goal.returns
 returns c =
-    let first = c.digit-first.ensures in
-    let second = c.digit-second.ensures in
+    let first = c.one_digit-first.ensures in
+    let second = c.one_digit-second.ensures in
     (quotient_by_digits (2 ^ 32) c.args.n (omega arith) first.0 first.1 second.0, remainder_by_digits (2 ^ 32) c.args.n (omega arith) first.0 first.1 second.1)

@@ -1,8 +1,8 @@
--- `wide::long_division::digit` meets its contract: the guess is two too large at most, and each step takes one off.
+-- `wide::long_division::one_digit` meets its contract: the guess is two too large at most, and each step takes one off.
 use Rattle.std.proofs.Common.{◌≡◌, ℕ, ◌-◌, ◌*◌, ◌/◌, ◌^◌, sym, ap, ◌∙◌, arith}
 use Rattle.std.proofs.Math.Nat.{div-mul-le_self, mod-eq-sub-div-mul}
 use Rattle.wide.proofs.Divisions.{guess_reaches, guess_lowered_twice}
-use Rattle.wide.proofs.long_division.digit.Goals as goal
+use Rattle.wide.proofs.long_division.one_digit.Goals as goal
 
 pub nearer-requires : goal.nearer-requires
 nearer-requires c = (omega arith, guess_reaches (2 ^ 32) c.args.n c.args.d (omega arith) (omega arith) (omega arith))
