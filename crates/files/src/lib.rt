@@ -8,7 +8,7 @@ ghost use Rattle.std.specs.Prelude.{◌≤◌, length, IfOk, IfSome, IsUtf8, OnO
 use arrayvec::ArrayString;
 use std::env::{Env, FillError};
 use std::fmt::Write;
-use std::io::Read;
+use std::io::{Read, Stderr};
 use std::rt::Files;
 use std::{fmt, fs, io};
 
@@ -22,6 +22,10 @@ const EILSEQ: i32 = 84;
 // An error in the system's words. Its number, which is told behind them, is left out.
 #[derive(Clone, Copy)]
 pub struct Reason(pub io::Error);
+
+// The standard error, to which each piece of a text goes by a write of its own. A write that fails is not told, and the next is tried.
+#[derive(Drop)]
+pub struct Pieces(pub Stderr);
 
 // Argument i, if there are so many, or the error for which it cannot be taken.
 pub fn argument<'a>(
@@ -59,12 +63,17 @@ pub fn read(file: &mut impl Read, bytes: &mut [u8]) -> io::Result<usize>
     }
     match file.read(&mut [0])? {
         0 => Ok(count),
-        _ => Err(io::Error::new(io::ErrorKind::Interrupted, "the reading was interrupted")),
+        _ => Err(interrupted()),
     }
 }
 
+// The error of a reading that stopped short and has more behind it.
+pub fn interrupted() -> io::Error {
+    io::Error::new(io::ErrorKind::Interrupted, "the reading was interrupted")
+}
+
 // How many bytes were read: until there is no more room, until the file's end, or until a read fails.
-fn filled(file: &mut impl Read, bytes: &mut [u8]) -> usize
+pub fn filled(file: &mut impl Read, bytes: &mut [u8]) -> usize
     ensures { result ≤ length bytes.new }
 {
     let mut done = 0;
@@ -78,6 +87,20 @@ fn filled(file: &mut impl Read, bytes: &mut [u8]) -> usize
         }
     }
     done
+}
+
+impl Pieces {
+    // Writes a piece that need not be text.
+    pub fn put(&self, bytes: &[u8]) {
+        let _ = self.0.write_all(bytes);
+    }
+}
+
+impl fmt::Write for Pieces {
+    fn write_str(&mut self, s: &str) -> fmt::Result {
+        self.put(s.as_bytes());
+        Ok(())
+    }
 }
 
 impl fmt::Display for Reason {

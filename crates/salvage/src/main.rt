@@ -53,12 +53,15 @@ fn whole(rt: &HostRuntime, path: &[u8], mut file: File) {
     }
 }
 
-// How many bytes were read, and how many came past them.
+// How many bytes were read, and how many came past them, unless the reading was interrupted: then more came where it had stopped short.
 fn read(file: &mut File, bytes: &mut [u8]) -> io::Result<(usize, u64)>
     ensures { IfOk result (λ counts. counts.0 ≤ length bytes.new) }
 {
-    let count = files::read(file, bytes)?;
-    let past = if count < bytes.len() { 0 } else { rest(file)? };
+    let count = files::filled(file, bytes);
+    let past = rest(file)?;
+    if count < bytes.len() && 0 < past {
+        return Err(files::interrupted());
+    }
     Ok((count, past))
 }
 
