@@ -3,12 +3,13 @@
 
 #![tactic(auto)]
 
-ghost use Rattle.std.specs.Prelude.{◌≤◌, length, IfOk, IfSome, IsUtf8, OnOk};
+ghost use Rattle.std.specs.Prelude.{◌≡◌, ◌≤◌, length, IfOk, IfSome, IsUtf8, None, OnOk};
+ghost use Rattle.std.specs.IoError.{error_kind, raw_os_error};
 
 use arrayvec::ArrayString;
 use std::env::{Env, FillError};
 use std::fmt::Write;
-use std::io::{Read, Stderr};
+use std::io::{ErrorKind, Read, Stderr};
 use std::rt::Files;
 use std::{fmt, fs, io};
 
@@ -68,8 +69,11 @@ pub fn read(file: &mut impl Read, bytes: &mut [u8]) -> io::Result<usize>
 }
 
 // The error of a reading that stopped short and has more behind it.
-pub fn interrupted() -> io::Error {
-    io::Error::new(io::ErrorKind::Interrupted, "the reading was interrupted")
+pub fn interrupted() -> io::Error
+    ensures kind { error_kind result ≡ ErrorKind.Interrupted }
+    ensures not_os { raw_os_error result ≡ None }
+{
+    io::Error::new(ErrorKind::Interrupted, "the reading was interrupted")
 }
 
 // How many bytes were read: until there is no more room, until the file's end, or until a read fails.
@@ -89,16 +93,9 @@ pub fn filled(file: &mut impl Read, bytes: &mut [u8]) -> usize
     done
 }
 
-impl Pieces {
-    // Writes a piece that need not be text.
-    pub fn put(&self, bytes: &[u8]) {
-        let _ = self.0.write_all(bytes);
-    }
-}
-
 impl fmt::Write for Pieces {
     fn write_str(&mut self, s: &str) -> fmt::Result {
-        self.put(s.as_bytes());
+        let _ = self.0.write_all(s.as_bytes());
         Ok(())
     }
 }

@@ -31,7 +31,7 @@ pub(crate) fn refused(rt: &HostRuntime, refused: Refused) {
 // What the system could not do, and why. A file's name need not be text.
 pub(crate) fn failed(rt: &HostRuntime, what: &[u8], error: io::Error) {
     let mut err = Pieces(rt.stderr());
-    err.put(b"salvage: ");
-    err.put(what);
+    let _ = write!(err, "salvage: ");
+    let _ = rt.stderr().write_all(what);
     let _ = writeln!(err, ": {}", Reason(error));
 }

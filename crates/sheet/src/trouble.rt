@@ -7,8 +7,8 @@ use std::io;
 // What the system could not do with a file, and why. A file's name need not be text.
 pub(crate) fn file(rt: &HostRuntime, path: &[u8], error: io::Error) {
     let mut err = Pieces(rt.stderr());
-    err.put(b"sheet: ");
-    err.put(path);
+    let _ = write!(err, "sheet: ");
+    let _ = rt.stderr().write_all(path);
     let _ = writeln!(err, ": {}", Reason(error));
 }
 
