@@ -3,8 +3,7 @@
 
 #![tactic(auto)]
 
-ghost use Rattle.std.specs.Prelude.{◌≡◌, ◌≤◌, length, IfOk, IfSome, IsUtf8, None, OnOk};
-ghost use Rattle.std.specs.IoError.{error_kind, raw_os_error};
+ghost use Rattle.std.specs.Prelude.{◌≤◌, length, IfOk, IfSome, IsUtf8, OnOk};
 
 use arrayvec::ArrayString;
 use std::env::{Env, FillError};
@@ -23,6 +22,11 @@ const EILSEQ: i32 = 84;
 // An error in the system's words. Its number, which is told behind them, is left out.
 #[derive(Clone, Copy)]
 pub struct Reason(pub io::Error);
+
+// An error's words to the end of a line, after a colon. One of the kind Interrupted without a number is that of a reading that stopped short and has
+// more behind it.
+#[derive(Drop)]
+pub struct Why(pub io::Error);
 
 // The standard error, to which each piece of a text goes by a write of its own. A write that fails is not told, and the next is tried.
 #[derive(Drop)]
@@ -64,16 +68,8 @@ pub fn read(file: &mut impl Read, bytes: &mut [u8]) -> io::Result<usize>
     }
     match file.read(&mut [0])? {
         0 => Ok(count),
-        _ => Err(interrupted()),
+        _ => Err(io::Error::from(ErrorKind::Interrupted)),
     }
-}
-
-// The error of a reading that stopped short and has more behind it.
-pub fn interrupted() -> io::Error
-    ensures kind { error_kind result ≡ ErrorKind.Interrupted }
-    ensures not_os { raw_os_error result ≡ None }
-{
-    io::Error::new(ErrorKind::Interrupted, "the reading was interrupted")
 }
 
 // How many bytes were read: until there is no more room, until the file's end, or until a read fails.
@@ -111,5 +107,14 @@ impl fmt::Display for Reason {
                 .split_once(" (os error ")
                 .map_or(words, |(before, _)| before),
         )
+    }
+}
+
+impl fmt::Display for Why {
+    fn fmt<W: fmt::Write>(&self, f: &mut fmt::Formatter<W>) -> fmt::Result {
+        match (self.0.kind(), self.0.raw_os_error()) {
+            (ErrorKind::Interrupted, None) => f.write_str(": the reading was interrupted\n"),
+            _ => writeln!(f, ": {}", Reason(self.0)),
+        }
     }
 }

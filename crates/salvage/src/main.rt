@@ -12,7 +12,7 @@ use files::NAME;
 use mending::Kept;
 use std::fs::File;
 use std::io;
-use std::io::Read;
+use std::io::{ErrorKind, Read};
 
 // The longest sound file, of version 2, has so many bytes.
 const LONGEST: usize = 262160;
@@ -60,7 +60,7 @@ fn read(file: &mut File, bytes: &mut [u8]) -> io::Result<(usize, u64)>
     let count = files::filled(file, bytes);
     let past = rest(file)?;
     if count < bytes.len() && 0 < past {
-        return Err(files::interrupted());
+        return Err(io::Error::from(ErrorKind::Interrupted));
     }
     Ok((count, past))
 }
@@ -101,6 +101,6 @@ fn written(rt: &HostRuntime, buffer: &[u8], length: usize, left_over: u64) -> io
     let end = length.checked_sub(left_over as usize);
     match end.and_then(|end| buffer.get(..end)) {
         Some(file) => rt.stdout().write_all(file),
-        None => Err(io::Error::from(io::ErrorKind::WriteZero)),
+        None => Err(io::Error::from(ErrorKind::WriteZero)),
     }
 }

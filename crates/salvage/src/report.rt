@@ -1,5 +1,5 @@
 // What the program says on standard error, in pieces.
-use files::{Pieces, Reason};
+use files::{Pieces, Why};
 use mending::Kept;
 use record::Refused;
 use std::fmt::Write;
@@ -33,5 +33,5 @@ pub(crate) fn failed(rt: &HostRuntime, what: &[u8], error: io::Error) {
     let mut err = Pieces(rt.stderr());
     let _ = write!(err, "salvage: ");
     let _ = rt.stderr().write_all(what);
-    let _ = writeln!(err, ": {}", Reason(error));
+    let _ = write!(err, "{}", Why(error));
 }

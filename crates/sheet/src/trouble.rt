@@ -1,5 +1,5 @@
 // What could not be opened, read or written: a line to standard error, in pieces.
-use files::{Pieces, Reason};
+use files::{Pieces, Why};
 use record::Refused;
 use std::fmt::Write;
 use std::io;
@@ -9,13 +9,13 @@ pub(crate) fn file(rt: &HostRuntime, path: &[u8], error: io::Error) {
     let mut err = Pieces(rt.stderr());
     let _ = write!(err, "sheet: ");
     let _ = rt.stderr().write_all(path);
-    let _ = writeln!(err, ": {}", Reason(error));
+    let _ = write!(err, "{}", Why(error));
 }
 
 // An argument that could not be taken.
 pub(crate) fn argument(rt: &HostRuntime, i: usize, error: io::Error) {
     let mut err = Pieces(rt.stderr());
-    let _ = writeln!(err, "sheet: argument {i}: {}", Reason(error));
+    let _ = write!(err, "sheet: argument {i}{}", Why(error));
 }
 
 // A call that the library refused, which it never does here.
