@@ -29,8 +29,8 @@
  *   - a buffer that the call may write overlaps no other buffer of the same call, and nobody else uses it before the call returns;
  *   - floating-point exceptions are masked, as they are where every C program starts. The modes are the caller's own: whichever way the machine rounds,
  *     and whether it takes subnormals for nought, as after linking with -ffast-math, every answer has the same bits.
- * The library keeps no state, takes no memory and calls nothing but memcpy, memmove and memset, which every C library has, and __udivti3 and
- * __umodti3, which gcc and clang bring with them; calls on different buffers may be made from different threads.
+ * The library keeps no state, takes no memory and calls nothing but memcpy, memmove and memset, which every C library has; calls on different
+ * buffers may be made from different threads.
  *
  * Units. Samples are picoseconds, one a basic interval. The Allan and modified variances are in square picoseconds per basic interval squared, the
  * time variance in square picoseconds. Deviations are whole numbers of 2^-20 picoseconds (Allan: per basic interval): divide by

@@ -24,3 +24,4 @@ pub mod ChannelCalls
 pub mod Condition1
 pub mod Condition2
 pub mod Condition3
+pub mod Programs

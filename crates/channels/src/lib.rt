@@ -40,7 +40,7 @@ impl Bank {
         ensures { bank_told self result ≡ bank_start_answer self channel m ring.now }
     {
         let on = Channel::new(channel)?;
-        let next = on.fresh(m, ring)?;
+        let next = fresh_on(channel, m, ring)?;
         Ok(self.with_meter(on, next))
     }
 
@@ -49,7 +49,7 @@ impl Bank {
         ensures { (bank_told self result ≡ bank_sample_answer self channel ring.old x) × (ring.new ≡ bank_ring_left self channel ring.old x) }
     {
         let on = Channel::new(channel)?;
-        let next = on.with_sample(self.meter(on), ring, x)?;
+        let next = with_sample_on(self.meter(on), channel, ring, x)?;
         Ok(self.with_meter(on, next))
     }
 
@@ -58,7 +58,7 @@ impl Bank {
         ensures { bank_told self result ≡ bank_gap_answer self channel }
     {
         let paused = Channel::new(channel)?;
-        let next = self.meter(paused).after_gap()?;
+        let next = after_gap_on(self.meter(paused), channel)?;
         Ok(self.with_meter(paused, next))
     }
 
@@ -67,7 +67,7 @@ impl Bank {
         ensures { report_told result ≡ bank_report_answer self channel }
     {
         let on = Channel::new(channel)?;
-        self.meter(on).sums()
+        sums_on(self.meter(on), channel)
     }
 
     // The bank with a fresh meter for a channel, as it is told.

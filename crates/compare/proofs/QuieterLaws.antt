@@ -39,9 +39,15 @@ times_in_halves a count below few =
     let together : value upper + value (halves (a.lo * count)) ≡ value a * count = rw (value_of_halves (a.lo * count)) (halves_times a.hi a.lo count) in
     sum_is_halves upper (halves (a.lo * count)) (rw together (below_top (product_below (value a) count below few))) ∙ ap halves together
 
+pub high_times_fits : (a : Wide) (count : ℕ) → value a < 2 ^ 100 → count ≤ 32768 → a.hi * count < 2 ^ 64
+high_times_fits a count below few = let high : a.hi < 2 ^ 36 = omega arith in omega (arith, mul-le-mul high few)
+
 -- a sum of squares of at most 2^84 each
 pub within_hundred_bits : {n count : ℕ} → count ≤ 32768 → n ≤ count * 2 ^ 84 → n < 2 ^ 100
 within_hundred_bits few within = omega arith
+
+pub products_compared : {p q : Wide} (x y : ℕ) {t : Bool} → p ≡ halves x → q ≡ halves y → t ≡ leb (value p) (value q) → t ≡ leb x y
+products_compared x y p-is q-is told = told ∙ rw (p-is, q-is, value_of_halves x, value_of_halves y) refl
 
 -- ---- fractions with a factor in both denominators
 
@@ -122,7 +128,7 @@ module _ (m : ℕ) (first second : List ℤ) where
         sum_is_too : (value two.sum ≡ allan_sum m second) × (two.count ≡ allan_count m second)
         sum_is_too = rw (two_is, allan_sum_given m second sound_too) (value_of_halves _, refl)
 
-        -- the products stay within 128 bits
+        -- the products stay within two halves
         pub sums_within : (one.count ≤ 32768) × (two.count ≤ 32768) × (value one.sum ≤ one.count * 2 ^ 84) × (value two.sum ≤ two.count * 2 ^ 84)
         sums_within = rw (sum_is.0, sum_is.1, sum_is_too.0, sum_is_too.1) (
           count_within m first sound,

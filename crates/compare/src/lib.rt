@@ -2,13 +2,14 @@
 
 #![tactic(auto)]
 
-ghost use Rattle.std.specs.Prelude.{◌≡◌, ◌*◌, ◌^◌, ◌≤◌, leb};
-ghost use Rattle.wide.specs.Wide.{value};
+ghost use Rattle.std.specs.Prelude.{◌≡◌, ◌*◌, ◌^◌, ◌≤◌, ◌<◌, leb};
+ghost use Rattle.wide.specs.Wide.{value, halves};
 ghost use Rattle.compare.specs.Quieter.{quieter_answer, quieter_record};
 ghost use Rattle.compare.specs.Told.{which_of, which_told};
 
 use record::Refused;
 use sums::Sum;
+use wide::Wide;
 
 // Which of two records is the quieter.
 #[derive(Clone, Copy, Debug, PartialEq, Eq)]
@@ -87,10 +88,20 @@ impl From<Result<Choice, Refused>> for QuieterAnswer {
     }
 }
 
-// Whether one total over its count is not above another over its own, crosswise: the products are at most 2^114.
+// Whether one total over its count is not above another over its own, crosswise: each product stays below 2^114.
 fn not_above(one: Sum, two: Sum) -> bool
     requires { (one.count ≤ 32768) × (two.count ≤ 32768) × (value one.total ≤ one.count * 2 ^ 84) × (value two.total ≤ two.count * 2 ^ 84) }
     ensures { result ≡ leb (value one.total * two.count) (value two.total * one.count) }
 {
-    u128::from(one.total) * two.count as u128 <= u128::from(two.total) * one.count as u128
+    wide::at_most(times(one.total, two.count), times(two.total, one.count))
+}
+
+// A number in two halves times a count.
+fn times(a: Wide, count: u64) -> Wide
+    requires { (value a < 2 ^ 100) × (count ≤ 32768) }
+    ensures { result ≡ halves (value a * count) }
+{
+    let hi = a.hi * count;
+    let low = wide::product(a.lo, count);
+    wide::sum(Wide { hi, lo: 0 }, low)
 }

@@ -2,7 +2,7 @@
 
 #![tactic(auto)]
 
-ghost use Rattle.std.specs.Prelude.{◌≡◌, ◌++◌, ◌+◌, ◌-◌, length, take};
+ghost use Rattle.std.specs.Prelude.{◌≡◌, ◌++◌, ◌+◌, ◌-◌, ◌/◌, ◌%◌, length, take};
 ghost use Rattle.wide.specs.Wide.{value};
 ghost use Rattle.decimal.specs.Decimal.{decimal};
 
@@ -15,11 +15,23 @@ pub fn spelled(n: Wide, digits: &mut [u8; 39]) -> usize
 {
     let mut rest = u128::from(n);
     for i in (0..39).rev() {
-        digits[i] = b'0' + (rest % 10) as u8;
-        rest /= 10;
+        let (tenth, digit) = by_ten(rest);
+        digits[i] = b'0' + digit;
+        rest = tenth;
         if rest == 0 {
             return i;
         }
     }
     unreachable!()
+}
+
+// A tenth and the last digit. A number of one word is divided as such, which is many times faster.
+fn by_ten(n: u128) -> (u128, u8)
+    ensures { (result.0 ≡ n / 10) × (result.1 ≡ n % 10) }
+{
+    if n < 1 << 64 {
+        let word = n as u64;
+        return ((word / 10) as u128, (word % 10) as u8);
+    }
+    (n / 10, (n % 10) as u8)
 }

@@ -15,7 +15,7 @@ use mir.Syntax.{w64}
 use mir.Val.{of_z, to_z}
 use Rattle.laws.specs.Lists.{at, first_failing}
 use Rattle.laws.proofs.Tests.{choice_false}
-use Rattle.laws.proofs.ListLaws.{tabulate_length, tabulate_entry}
+use Rattle.laws.proofs.ListLaws.{tabulate_length, tabulate_entry, none_fails}
 use Rattle.laws.proofs.Parts.{plus, minus, size_is, small_fits, parts_of_equal}
 use Rattle.laws.proofs.Expressions.{Expression, $◌, ±◌, #◌, ◌∋◌, ◌⊕◌, ◌⊖◌, ◌⊗◌, ⟦◌⟧, sound, equation}
 use Rattle.laws.proofs.Machine.{Fit, machine, read_back, machine_is}
@@ -29,7 +29,7 @@ use Rattle.record.specs.Told.{number_of}
 use Rattle.record.specs.declared.grounds.Refused.{Refused}
 use Rattle.record.proofs.ToldLaws.{answered_not, refuses_nothing}
 use Rattle.drift.specs.Told.{drift_told}
-use Rattle.record.proofs.RefusalLaws.{refusal_stands, none_gives_way, first_refuses_nothing, rest_refuses_nothing, test_fails, unrefused_in_range, in_range_bounded}
+use Rattle.record.proofs.RefusalLaws.{refusal_stands, none_gives_way, first_refuses_nothing, rest_refuses_nothing, test_fails, all_in_range, unrefused_in_range, in_range_bounded}
 use Rattle.sums.proofs.PublishedLaws.{difference_means, difference_within}
 use Rattle.sums.proofs.TotalLaws.{difference_fits}
 use Rattle.drift.proofs.Floors.{floor_taken_apart}
@@ -96,6 +96,15 @@ module _ (xs : List ℤ) where
 
   pub none_drifting : drift_refusal xs ≡ none → Drifting xs
   none_drifting e = unrefused_drifting (ap (λ (r : Refusal). r.number) e)
+
+  pub unrefused_drift_none : (drift_refusal xs).number ≡ 0 → drift_refusal xs ≡ none
+  unrefused_drift_none e =
+      let s = unrefused_drifting e in
+      drift_by_range s.not_too_many s.enough ∙ all_in_range xs (none_fails in_range (pos 0) xs s.in_range_lem)
+
+  pub range_none_drift_none : length xs ≤ 32768 → 3 ≤ length xs → {r : Refusal} → r ≡ range_refusal xs → r.number ≡ 0 → drift_refusal xs ≡ none
+  range_none_drift_none few enough e unrefused =
+      unrefused_drift_none (ap (λ (s : Refusal). s.number) (drift_by_range few enough ∙ sym e) ∙ unrefused)
 
 -- ---- h, P and R
 
@@ -312,6 +321,11 @@ module _ (xs : List ℤ) where
 -- ---- the answer of the drift figure
 
 module _ (xs : List ℤ) where
+  pub figure_refused : {r : Refusal} → r ≡ drift_refusal xs → (r.number ≡ 0 → ⊥) →
+      record { number = r.number; place = r.place; p = pos 0; r = 0 } ≡ drift_answer xs
+  unfolding drift_answer
+  figure_refused {r} e refuses = rw (← e) (sym (choice_false _ _ (ne_eqb r.number 0 refuses)))
+
   pub figure_error : (e : Refused) → refused (number_of e.why) e.place ≡ drift_refusal xs → drift_told (Err e) ≡ drift_answer xs
   unfolding drift_answer
   figure_error e is = rw (← is) (sym (choice_false _ _ (ne_eqb (number_of e.why) 0 (answered_not e))))
@@ -358,6 +372,9 @@ module _ (xs : List ℤ) (room : ℕ) where
         module _ (unrefused : r.number ≡ 0) where
           pub removal_result_outside : (i : ℕ) → i ≡ outside → i < length xs → removal_refusal xs room ≡ refused 3 i
           removal_result_outside i e h = by_values ∙ none_gives_way r _ unrefused ∙ simp (← e, lt-ltb i (length xs) h)
+
+          pub removal_none : (i : ℕ) → i ≡ outside → length xs ≤ i → removal_refusal xs room ≡ none
+          removal_none i e h = by_values ∙ none_gives_way r _ unrefused ∙ simp (← e, le-ltb i (length xs) h)
 
   pub removal_size_refuses : ((sized (length xs)).number ≡ 0 → ⊥) → removal_refusal xs room ≡ sized (length xs)
   unfolding removal_refusal

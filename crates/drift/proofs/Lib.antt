@@ -1,3 +1,4 @@
 pub mod Floors
 pub mod DriftLaws
+pub mod UnderLaws
 pub mod Unique

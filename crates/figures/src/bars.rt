@@ -2,7 +2,7 @@
 use crate::print::{Double, Told};
 use noise::bars::Bar;
 use noise::{Noise, bars};
-use std::io::Stdout;
+use shown::Output;
 use std::{fmt, io};
 
 // Deviation r, noise type and M.
@@ -47,7 +47,7 @@ impl fmt::Display for Ends {
 }
 
 // A line for each row. The types are numbered as the rules' table has them, from alpha 2 down.
-pub(crate) fn figures(out: Stdout) -> io::Result<()> {
+pub(crate) fn figures(out: Output) -> io::Result<()> {
     for (r, noise, m) in ROWS {
         let told = Told(bars::row(r, noise, m).map(Ends));
         println!(out; "bar of {r} with type {}, M = {m}: {told}", noise as u64)?;

@@ -3,8 +3,7 @@ use crate::print::Told;
 use crate::records;
 use drift::Drift;
 use record::Refused;
-use shown::{Sum, Values};
-use std::io::Stdout;
+use shown::{Output, Sum, Values};
 use std::{fmt, io};
 
 // The entries.
@@ -116,7 +115,7 @@ impl fmt::Display for Shown {
 }
 
 // All lines.
-pub(crate) fn figures(out: Stdout) -> io::Result<()> {
+pub(crate) fn figures(out: Output) -> io::Result<()> {
     for row in ROWS {
         filled(out, Entry::Phases, &row)?;
         filled(out, Entry::Differences, &row)?;
@@ -135,13 +134,13 @@ pub(crate) fn figures(out: Stdout) -> io::Result<()> {
 }
 
 // One record without its drift, and its drift.
-fn drift_lines(out: Stdout, samples: &[i64]) -> io::Result<()> {
+fn drift_lines(out: Output, samples: &[i64]) -> io::Result<()> {
     filled(out, Entry::Removal, samples)?;
     println!(out; "drift of{}: {}", Values(samples), drift_of(samples))
 }
 
 // One line: what an entry answers, and the buffer as it is left.
-fn filled(out: Stdout, entry: Entry, row: &[i64]) -> io::Result<()> {
+fn filled(out: Output, entry: Entry, row: &[i64]) -> io::Result<()> {
     let mut buffer = [7i64; 6];
     let told = entry.fill(row, &mut buffer);
     println!(out; "{entry}{}: {told}; buffer{}", Values(row), Values(&buffer))
@@ -153,7 +152,7 @@ fn drift_of(samples: &[i64]) -> Told<Shown> {
 }
 
 // A line for each size: an entry on noughts, with a buffer of some length.
-fn sizes(out: Stdout, noughts: &[i64]) -> io::Result<()> {
+fn sizes(out: Output, noughts: &[i64]) -> io::Result<()> {
     let mut buffer = [7i64; 32769];
     for (entry, length, room) in SIZES {
         if let (Some(values), Some(lent)) = (noughts.get(..length), buffer.get_mut(..room)) {
@@ -165,7 +164,7 @@ fn sizes(out: Stdout, noughts: &[i64]) -> io::Result<()> {
 }
 
 // Each entry on a long record, the first of its values taken as readings, and the way back from its differences.
-fn long_lines(out: Stdout, name: &str, samples: &[i64; 32768]) -> io::Result<()> {
+fn long_lines(out: Output, name: &str, samples: &[i64; 32768]) -> io::Result<()> {
     phases(out, "", name, samples)?;
     long(out, "", Entry::Differences, name, samples)?;
     long(out, "", Entry::Removal, name, samples)?;
@@ -176,12 +175,12 @@ fn long_lines(out: Stdout, name: &str, samples: &[i64; 32768]) -> io::Result<()>
 }
 
 // The phases of the first values.
-fn phases(out: Stdout, before: &str, name: &str, values: &[i64; 32768]) -> io::Result<()> {
+fn phases(out: Output, before: &str, name: &str, values: &[i64; 32768]) -> io::Result<()> {
     long(out, before, Entry::Phases, name, &values[..32767])
 }
 
 // One line: what an entry answers, and the Allan sum at factor 7 of the buffer as it is left.
-fn long(out: Stdout, before: &str, entry: Entry, name: &str, values: &[i64]) -> io::Result<()> {
+fn long(out: Output, before: &str, entry: Entry, name: &str, values: &[i64]) -> io::Result<()> {
     let mut buffer = [7i64; 32768];
     let told = entry.fill(values, &mut buffer);
     println!(out;

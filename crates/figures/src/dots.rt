@@ -2,7 +2,7 @@
 use crate::print::{Double, Fraction, Told};
 use plot::dots;
 use plot::dots::Dot;
-use std::io::Stdout;
+use shown::Output;
 use std::{fmt, io};
 use sums::Sum;
 use variances::fractions;
@@ -51,7 +51,7 @@ impl fmt::Display for Shown {
 }
 
 // Four lines for each row: the two fractions and the two dots of one sum.
-pub(crate) fn figures(out: Stdout) -> io::Result<()> {
+pub(crate) fn figures(out: Output) -> io::Result<()> {
     for (hi, lo, m, count) in ROWS {
         let total = Wide { hi, lo };
         let sum = Sum { total, count };
@@ -62,7 +62,7 @@ pub(crate) fn figures(out: Stdout) -> io::Result<()> {
 }
 
 // The Allan fraction and the time fraction.
-fn both_fractions(out: Stdout, sum: Sum, m: u64) -> io::Result<()> {
+fn both_fractions(out: Output, sum: Sum, m: u64) -> io::Result<()> {
     let of = shown::Sum(sum);
     let allan = Told(fractions::allan_variance(sum, m).map(Fraction));
     println!(out; "Allan fraction of {of}, m = {m}: {allan}")?;
@@ -71,7 +71,7 @@ fn both_fractions(out: Stdout, sum: Sum, m: u64) -> io::Result<()> {
 }
 
 // The Allan dot and the time dot.
-fn both_dots(out: Stdout, sum: Sum, m: u64) -> io::Result<()> {
+fn both_dots(out: Output, sum: Sum, m: u64) -> io::Result<()> {
     let of = shown::Sum(sum);
     let allan = Told(dots::dot_of_allan(sum, m).map(Shown));
     println!(out; "Allan dot of {of}, m = {m}: {allan}")?;

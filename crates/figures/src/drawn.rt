@@ -1,8 +1,8 @@
 // Drawn numbers, at the ends of what is drawn and where a double begins to leave digits out.
 use crate::print::{Double, Told};
 use plot::drawn;
+use shown::Output;
 use std::io;
-use std::io::Stdout;
 
 // Deviations in units of 2^-20.
 const ROWS: [u64; 27] = [
@@ -36,7 +36,7 @@ const ROWS: [u64; 27] = [
 ];
 
 // A line for each: the double of r, or its refusal.
-pub(crate) fn figures(out: Stdout) -> io::Result<()> {
+pub(crate) fn figures(out: Output) -> io::Result<()> {
     for r in ROWS {
         let told = Told(drawn::number(r).map(Double));
         println!(out; "drawn number of {r}: {told}")?;

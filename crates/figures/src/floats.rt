@@ -1,8 +1,7 @@
 // Float readings: what they become, how many are changed, what some are refused for, and what is left in the buffer.
 use crate::print::Told;
 use readings::Sums;
-use shown::{OnePart, Values};
-use std::io::Stdout;
+use shown::{OnePart, Output, Values};
 use std::{fmt, io};
 
 // Three readings, in words and as they are.
@@ -92,7 +91,7 @@ impl fmt::Display for Shown {
 }
 
 // All lines.
-pub(crate) fn figures(out: Stdout) -> io::Result<()> {
+pub(crate) fn figures(out: Output) -> io::Result<()> {
     for (words, readings) in THREES {
         three(out, words, readings)?;
     }
@@ -103,7 +102,7 @@ pub(crate) fn figures(out: Stdout) -> io::Result<()> {
 }
 
 // One line: three readings in words, their sums at m = 1, and the buffer, whose fourth entry is past the output.
-fn three(out: Stdout, words: &str, readings: [f64; 3]) -> io::Result<()> {
+fn three(out: Output, words: &str, readings: [f64; 3]) -> io::Result<()> {
     let mut buffer = [7i64; 4];
     let shown = Told(readings::sums_of(&readings, 1, &mut buffer).map(Shown));
     println!(out;
@@ -113,7 +112,7 @@ fn three(out: Stdout, words: &str, readings: [f64; 3]) -> io::Result<()> {
 }
 
 // One line: the first squares at a factor, with a buffer of some length.
-fn size(out: Stdout, m: u64, count: usize, room: usize) -> io::Result<()> {
+fn size(out: Output, m: u64, count: usize, room: usize) -> io::Result<()> {
     let mut buffer = [7i64; 9];
     if let (Some(squares), Some(lent)) = (SQUARES.get(..count), buffer.get_mut(..room)) {
         let shown = Told(readings::sums_of(squares, m, lent).map(Shown));
@@ -123,7 +122,7 @@ fn size(out: Stdout, m: u64, count: usize, room: usize) -> io::Result<()> {
 }
 
 // A record of 32,768 readings is taken, and one of 32,769 is not.
-fn too_many(out: Stdout) -> io::Result<()> {
+fn too_many(out: Output) -> io::Result<()> {
     let noughts = [0.0f64; 32769];
     let mut buffer = [7i64; 32769];
     let shown = Told(readings::sums_of(&noughts, 1, &mut buffer).map(Shown));

@@ -1,5 +1,5 @@
 // Numbers in two halves, at the ends of what they hold.
-use std::io::Stdout;
+use shown::Output;
 use std::{fmt, io};
 use wide::{Division, Wide};
 
@@ -47,7 +47,7 @@ impl fmt::Display for Divided {
 }
 
 // All lines.
-pub(crate) fn figures(out: Stdout) -> io::Result<()> {
+pub(crate) fn figures(out: Output) -> io::Result<()> {
     products_and_sums(out)?;
     quotients(out)?;
     roots(out)?;
@@ -55,7 +55,7 @@ pub(crate) fn figures(out: Stdout) -> io::Result<()> {
 }
 
 // Products and sums that pass one half, and the sum that passes both.
-fn products_and_sums(out: Stdout) -> io::Result<()> {
+fn products_and_sums(out: Output) -> io::Result<()> {
     println!(out; "(2^64 - 1) squared: {}", Named(wide::product(MOST, MOST)))?;
     println!(out;
         "2^41 squared: {}",
@@ -66,7 +66,7 @@ fn products_and_sums(out: Stdout) -> io::Result<()> {
 }
 
 // Quotients, and the one that is not defined.
-fn quotients(out: Stdout) -> io::Result<()> {
+fn quotients(out: Output) -> io::Result<()> {
     println!(out; "2^126 by 7: {}", Divided(wide::divided(LIMIT, 7)))?;
     println!(out;
         "2^128 - 1 by 2^64 - 1: {}",
@@ -76,14 +76,14 @@ fn quotients(out: Stdout) -> io::Result<()> {
 }
 
 // Roots at the limit of a sum and at the end of both halves.
-fn roots(out: Stdout) -> io::Result<()> {
+fn roots(out: Output) -> io::Result<()> {
     println!(out; "root of 2^126 - 1: {}", wide::root(BELOW))?;
     println!(out; "root of 2^126: {}", wide::root(LIMIT))?;
     println!(out; "root of 2^128 - 1: {}", wide::root(END))
 }
 
 // The rules' deviation passes its test, and one more does not.
-fn orders(out: Stdout) -> io::Result<()> {
+fn orders(out: Output) -> io::Result<()> {
     for r in [1482910, 1482911] {
         let order = if wide::square_at_most(r, 8, low(16)) {
             "not above"

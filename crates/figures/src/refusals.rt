@@ -1,8 +1,8 @@
 // Which records are taken, and what the others are refused for.
 use crate::print::Told;
 use record::{Demand, LARGEST_SAMPLE};
+use shown::Output;
 use std::io;
-use std::io::Stdout;
 
 // Samples at the ends of the range and one past them, in records of three at m = 1, in words and as they are; the place is the index of the first
 // outside.
@@ -44,7 +44,7 @@ const SIZES: [(&str, Demand, u64, usize); 18] = [
 ];
 
 // A line for each record.
-pub(crate) fn figures(out: Stdout) -> io::Result<()> {
+pub(crate) fn figures(out: Output) -> io::Result<()> {
     for (words, samples) in ENDS {
         let verdict = verdict(sums::ALLAN, 1, &samples);
         println!(out; "samples {words}: {verdict}")?;
@@ -53,7 +53,7 @@ pub(crate) fn figures(out: Stdout) -> io::Result<()> {
 }
 
 // The lines of records of noughts.
-fn sizes(out: Stdout, noughts: &[i64]) -> io::Result<()> {
+fn sizes(out: Output, noughts: &[i64]) -> io::Result<()> {
     for (sum, demand, m, length) in SIZES {
         if let Some(samples) = noughts.get(..length) {
             let verdict = verdict(demand, m, samples);

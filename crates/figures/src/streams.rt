@@ -3,9 +3,8 @@ use crate::records;
 use crate::records::Rule;
 use meter::{Meter, Sums};
 use record::Refused;
-use shown::{OnePart, Refusal};
+use shown::{OnePart, Output, Refusal};
 use std::io;
-use std::io::Stdout;
 
 // The records.
 const RECORDS: [(&str, Rule); 3] = [
@@ -26,7 +25,7 @@ const SIZES: [(u64, usize); 8] = [
 ];
 
 // The lines of each record at each size.
-pub(crate) fn figures(out: Stdout) -> io::Result<()> {
+pub(crate) fn figures(out: Output) -> io::Result<()> {
     let mut samples = [0i64; 32768];
     for (name, rule) in RECORDS {
         records::fill(&mut samples, rule);
@@ -36,7 +35,7 @@ pub(crate) fn figures(out: Stdout) -> io::Result<()> {
 }
 
 // The lines of one record at each size.
-fn sizes(out: Stdout, name: &str, samples: &[i64]) -> io::Result<()> {
+fn sizes(out: Output, name: &str, samples: &[i64]) -> io::Result<()> {
     for (m, length) in SIZES {
         if let Some(first) = samples.get(..length) {
             compare(out, name, first, m)?;
@@ -46,7 +45,7 @@ fn sizes(out: Stdout, name: &str, samples: &[i64]) -> io::Result<()> {
 }
 
 // Two lines, the meter's and the whole record's.
-fn compare(out: Stdout, name: &str, samples: &[i64], m: u64) -> io::Result<()> {
+fn compare(out: Output, name: &str, samples: &[i64], m: u64) -> io::Result<()> {
     let length = samples.len();
     match streamed(samples, m) {
         Ok(sums) => println!(out;

@@ -2,8 +2,7 @@
 use crate::print::{Fraction, Told};
 use crate::records;
 use record::Refused;
-use shown::Sum;
-use std::io::Stdout;
+use shown::{Output, Sum};
 use std::{fmt, io};
 use variances::{deviations, fractions};
 
@@ -21,7 +20,7 @@ impl fmt::Display for Whole {
 }
 
 // The lines of each record at each factor.
-pub(crate) fn figures(out: Stdout) -> io::Result<()> {
+pub(crate) fn figures(out: Output) -> io::Result<()> {
     let mut samples = [0i64; 32768];
     for (name, rule) in records::RULES {
         records::fill(&mut samples, rule);
@@ -33,7 +32,7 @@ pub(crate) fn figures(out: Stdout) -> io::Result<()> {
 }
 
 // The lengths at which a sum becomes due, and the longest.
-fn all_lengths(out: Stdout, name: &str, samples: &[i64], m: u16) -> io::Result<()> {
+fn all_lengths(out: Output, name: &str, samples: &[i64], m: u16) -> io::Result<()> {
     let factor = m as usize;
     for length in [
         2 * factor,
@@ -50,7 +49,7 @@ fn all_lengths(out: Stdout, name: &str, samples: &[i64], m: u16) -> io::Result<(
 }
 
 // One record's lines: its Allan figures and its modified ones.
-fn one_length(out: Stdout, name: &str, samples: &[i64], m: u64) -> io::Result<()> {
+fn one_length(out: Output, name: &str, samples: &[i64], m: u64) -> io::Result<()> {
     let length = samples.len();
     println!(out; "{name} m {m} N {length} Allan {}", Told(allan(samples, m)))?;
     println!(out;

@@ -2,7 +2,7 @@
 use crate::print::Told;
 use crate::records;
 use noise::Noise;
-use std::io::Stdout;
+use shown::Output;
 use std::{fmt, io};
 
 // The time deviations at m and 2m.
@@ -70,7 +70,7 @@ impl fmt::Display for Alpha {
 }
 
 // The types of the pairs, and of each record.
-pub(crate) fn figures(out: Stdout) -> io::Result<()> {
+pub(crate) fn figures(out: Output) -> io::Result<()> {
     for (r1, r2) in PAIRS {
         let shown = Told(noise::by_deviations(r1, r2).map(Alpha));
         println!(out; "noise type of {r1}, {r2}: {shown}")?;
@@ -84,7 +84,7 @@ pub(crate) fn figures(out: Stdout) -> io::Result<()> {
 }
 
 // A line for each size: the type of the first samples at a factor.
-fn sizes(out: Stdout, name: &str, samples: &[i64]) -> io::Result<()> {
+fn sizes(out: Output, name: &str, samples: &[i64]) -> io::Result<()> {
     for (m, length) in SIZES {
         if let Some(first) = samples.get(..length) {
             let shown = Told(noise::of_record(first, m as u64).map(Alpha));

@@ -3,9 +3,8 @@ use crate::records;
 use channels::{Bank, CHANNELS};
 use meter::{Meter, Sums};
 use record::Refused;
-use shown::{OnePart, Refusal};
+use shown::{OnePart, Output, Refusal};
 use std::io;
-use std::io::Stdout;
 use wide::Wide;
 
 // How many entries sixteen channels need at factors up to 16.
@@ -14,7 +13,7 @@ const RING: usize = 768;
 const TURNS: usize = 200;
 
 // A line for each channel, and for one above them.
-pub(crate) fn figures(out: Stdout) -> io::Result<()> {
+pub(crate) fn figures(out: Output) -> io::Result<()> {
     let mut samples = [0i64; 32768];
     records::scattered(&mut samples);
     let mut ring = [0i64; RING];
@@ -75,7 +74,7 @@ fn stepped(bank: Bank, c: u64, x: i64, turn: u64, ring: &mut [i64; RING]) -> Ban
 }
 
 // One line: a channel's sums.
-fn of_channel(out: Stdout, c: u64, sums: Result<Sums, Refused>) -> io::Result<()> {
+fn of_channel(out: Output, c: u64, sums: Result<Sums, Refused>) -> io::Result<()> {
     match sums {
         Ok(sums) => println!(out;
             "channel {c}:{}{}",

@@ -6,16 +6,16 @@ mod bank;
 mod quieter;
 mod records;
 
+use shown::Output;
 use std::io;
-use std::io::Stdout;
 
-// A write that fails ends the lines and is not told.
+// A write that fails is not told, and the next is tried.
 fn main(rt: HostRuntime) {
-    let _ = figures(rt.stdout());
+    let _ = figures(Output(rt.stdout()));
 }
 
 // All lines.
-fn figures(out: Stdout) -> io::Result<()> {
+fn figures(out: Output) -> io::Result<()> {
     quieter::figures(out)?;
     bank::figures(out)
 }

@@ -1,8 +1,7 @@
 // The quieter of two records, handed back as the record itself, or the empty part and why.
 use record::LARGEST_SAMPLE;
-use shown::{Refusal, Values};
+use shown::{Output, Refusal, Values};
 use std::io;
-use std::io::Stdout;
 
 // A factor and two records.
 const PAIRS: [(u64, &[i64], &[i64]); 6] = [
@@ -19,7 +18,7 @@ const PAIRS: [(u64, &[i64], &[i64]); 6] = [
 ];
 
 // Two lines for each pair, in which each record is first once.
-pub(crate) fn figures(out: Stdout) -> io::Result<()> {
+pub(crate) fn figures(out: Output) -> io::Result<()> {
     for (m, one, two) in PAIRS {
         line(out, m, one, two)?;
         line(out, m, two, one)?;
@@ -28,7 +27,7 @@ pub(crate) fn figures(out: Stdout) -> io::Result<()> {
 }
 
 // One line: the records, the factor, the one that is handed back, and which it is or the refusal.
-fn line(out: Stdout, m: u64, first: &[i64], second: &[i64]) -> io::Result<()> {
+fn line(out: Output, m: u64, first: &[i64], second: &[i64]) -> io::Result<()> {
     let one = Values(first);
     let two = Values(second);
     let quieter = Values(compare::quieter(first, second, m));

@@ -8,7 +8,7 @@ ghost use Rattle.std.specs.Prelude.{◌≤◌, length, IfOk, IfSome, IsUtf8, OnO
 use arrayvec::ArrayString;
 use std::env::{Env, FillError};
 use std::fmt::Write;
-use std::io::Read;
+use std::io::{ErrorKind, Read, Stderr};
 use std::rt::Files;
 use std::{fmt, fs, io};
 
@@ -22,6 +22,15 @@ const EILSEQ: i32 = 84;
 // An error in the system's words. Its number, which is told behind them, is left out.
 #[derive(Clone, Copy)]
 pub struct Reason(pub io::Error);
+
+// An error's words to the end of a line, after a colon. One of the kind Interrupted without a number is that of a reading that stopped short and has
+// more behind it.
+#[derive(Drop)]
+pub struct Why(pub io::Error);
+
+// The standard error, to which each piece of a text goes by a write of its own. A write that fails is not told, and the next is tried.
+#[derive(Drop)]
+pub struct Pieces(pub Stderr);
 
 // Argument i, if there are so many, or the error for which it cannot be taken.
 pub fn argument<'a>(
@@ -59,12 +68,12 @@ pub fn read(file: &mut impl Read, bytes: &mut [u8]) -> io::Result<usize>
     }
     match file.read(&mut [0])? {
         0 => Ok(count),
-        _ => Err(io::Error::new(io::ErrorKind::Interrupted, "the reading was interrupted")),
+        _ => Err(io::Error::from(ErrorKind::Interrupted)),
     }
 }
 
 // How many bytes were read: until there is no more room, until the file's end, or until a read fails.
-fn filled(file: &mut impl Read, bytes: &mut [u8]) -> usize
+pub fn filled(file: &mut impl Read, bytes: &mut [u8]) -> usize
     ensures { result ≤ length bytes.new }
 {
     let mut done = 0;
@@ -80,6 +89,13 @@ fn filled(file: &mut impl Read, bytes: &mut [u8]) -> usize
     done
 }
 
+impl fmt::Write for Pieces {
+    fn write_str(&mut self, s: &str) -> fmt::Result {
+        let _ = self.0.write_all(s.as_bytes());
+        Ok(())
+    }
+}
+
 impl fmt::Display for Reason {
     fn fmt<W: fmt::Write>(&self, f: &mut fmt::Formatter<W>) -> fmt::Result {
         // The system's longest words have some fifty bytes.
@@ -91,5 +107,14 @@ impl fmt::Display for Reason {
                 .split_once(" (os error ")
                 .map_or(words, |(before, _)| before),
         )
+    }
+}
+
+impl fmt::Display for Why {
+    fn fmt<W: fmt::Write>(&self, f: &mut fmt::Formatter<W>) -> fmt::Result {
+        match (self.0.kind(), self.0.raw_os_error()) {
+            (ErrorKind::Interrupted, None) => f.write_str(": the reading was interrupted\n"),
+            _ => writeln!(f, ": {}", Reason(self.0)),
+        }
     }
 }

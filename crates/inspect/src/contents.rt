@@ -1,10 +1,11 @@
 // What a record file holds, as one line to standard output. Every figure is the library's.
 use crate::figures::{Count, Refusal, Sum, Told};
-use crate::{line, trouble};
+use crate::line::Line;
+use crate::trouble;
 use phr::{Contents, Kind};
 use record::Refused;
-use std::io;
-use std::io::Write;
+use std::fmt;
+use std::fmt::Write;
 use variances::deviations;
 
 // The most values of a file.
@@ -16,22 +17,17 @@ const LONG: u64 = 2;
 
 // The line of a file.
 pub(crate) fn show(rt: &HostRuntime, path: &[u8], bytes: &[u8]) {
-    if let Err(error) = written(rt, path, bytes) {
+    let mut line = Line::begun(b"", path);
+    line.put(b": ");
+    let _ = contents(&mut line, bytes);
+    line.put(b"\n");
+    if let Err(error) = rt.stdout().write_all(line.bytes()) {
         trouble::file(rt, b"standard output", "written", error);
     }
 }
 
-// The line, in one call.
-fn written(rt: &HostRuntime, path: &[u8], bytes: &[u8]) -> io::Result<()> {
-    let mut line = line::begun(rt.alloc(), b"", path)?;
-    line.extend_from_slice(b": ")?;
-    contents(&mut line, bytes)?;
-    line.push(b'\n')?;
-    rt.stdout().write_all(&line)
-}
-
 // What the file says and the figures of its values, or the refusal.
-fn contents(line: &mut Vec<u8>, bytes: &[u8]) -> io::Result<()> {
+fn contents(line: &mut Line, bytes: &[u8]) -> fmt::Result {
     let mut values = [0i64; MOST];
     match phr::read_either(bytes, &mut values) {
         Ok(said) => held(line, said, front(&values, said.count)),
@@ -45,7 +41,7 @@ fn front(values: &[i64; MOST], count: u64) -> &[i64] {
 }
 
 // The version, the kind, the count and the figures of a file that says this and has these values.
-fn held(line: &mut Vec<u8>, said: Contents, values: &[i64]) -> io::Result<()> {
+fn held(line: &mut Line, said: Contents, values: &[i64]) -> fmt::Result {
     let version = said.version;
     let start = said.start;
     let count = Count(said.count);
@@ -66,7 +62,7 @@ fn held(line: &mut Vec<u8>, said: Contents, values: &[i64]) -> io::Result<()> {
 }
 
 // The figures of the phases of these readings, from a start on.
-fn readings(line: &mut Vec<u8>, start: i64, readings: &[i64]) -> io::Result<()> {
+fn readings(line: &mut Line, start: i64, readings: &[i64]) -> fmt::Result {
     let mut phases = [0i64; MOST];
     match frequency::phases(start, readings, &mut phases) {
         Ok(count) => phase(line, front(&phases, count)),
@@ -75,7 +71,7 @@ fn readings(line: &mut Vec<u8>, start: i64, readings: &[i64]) -> io::Result<()> 
 }
 
 // The figures of these samples.
-fn phase(line: &mut Vec<u8>, samples: &[i64]) -> io::Result<()> {
+fn phase(line: &mut Line, samples: &[i64]) -> fmt::Result {
     write!(line, "; factor 1: Allan {}", Told(allan(samples)))?;
     write!(line, "; factor 2: modified {}", Told(modified(samples)))
 }

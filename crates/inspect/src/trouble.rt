@@ -1,6 +1,7 @@
 // What could not be opened, read or written: a line to standard error.
-use crate::line;
-use std::io::{ErrorKind, Write};
+use crate::line::Line;
+use std::fmt::Write;
+use std::io::ErrorKind;
 use std::{fmt, io};
 
 // The number that the system, Linux, gives to an error of input or output.
@@ -34,7 +35,9 @@ impl fmt::Display for Reason {
 
 // What could not be done with a file, and why.
 pub(crate) fn file(rt: &HostRuntime, path: &[u8], done: &str, error: io::Error) {
-    let _ = written(rt, path, done, error);
+    let mut line = Line::begun(b"inspect: ", path);
+    let _ = writeln!(line, ": cannot be {done}: {}", Reason(error));
+    let _ = rt.stderr().write_all(line.bytes());
 }
 
 // An argument that could not be taken.
@@ -43,11 +46,4 @@ pub(crate) fn argument(rt: &HostRuntime, i: usize, error: io::Error) {
         "inspect: argument {i}: cannot be opened: {}",
         Reason(error)
     );
-}
-
-// The line of a file.
-fn written(rt: &HostRuntime, path: &[u8], done: &str, error: io::Error) -> io::Result<()> {
-    let mut line = line::begun(rt.alloc(), b"inspect: ", path)?;
-    writeln!(line, ": cannot be {done}: {}", Reason(error))?;
-    rt.stderr().write_all(&line)
 }

@@ -13,3 +13,7 @@ both_appended {a = a} {b = b} {before = before} {at = at} x y = record {
   ends = omega (arith, x.ends, y.ends, length-append a b);
   holds = y.holds ∙ ap (λ t. t ++ b) x.holds ∙ append_assoc (take at before) a b;
 }
+
+-- from the front of the buffer on, the output is all that stands there
+pub all_appended : {A : Type 0} {out before after : List A} {end : ℕ} → Appended out before 0 after end → (end ≡ length out) × (take end after ≡ out)
+all_appended x = (omega (arith, x.ends), x.holds)

@@ -77,6 +77,11 @@ module _ (r : Refusal) (n : ℕ) where
       by_number true t e nought = (eqb-true r.number 0 t, ap (λ (a : CountAnswer). a.count) e)
       by_number false t e nought = absurd (eqb-false r.number 0 t (sym (ap (λ (a : CountAnswer). a.number) e) ∙ nought))
 
+-- refusals that refuse nothing are answered alike
+pub same_answer : (r s : Refusal) (n : ℕ) → r.number ≡ 0 → s.number ≡ 0 → count_answer r n ≡ count_answer s n
+unfolding count_answer
+same_answer r s n e f = rw (eq-eqb r.number 0 e, eq-eqb s.number 0 f)
+
 -- an error that is told of the first of two refusals
 pub error_first : (r s : Refusal) (n k : ℕ) (e : Refused) → count_told (Err e) ≡ count_answer r n → count_told (Err e) ≡ count_answer (r then s) k
 error_first r s n k e is =

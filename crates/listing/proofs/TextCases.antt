@@ -1,14 +1,15 @@
 -- The cases of a record's text and of the totals with it, and of the two calls that fill a lent buffer with text.
 use mathlib.Core.Path.{◌≡◌, refl, sym, ap₂, ◌∙◌}
 use mathlib.Core.Bool.{Bool, true, false, ◌||◌, true≢false}
-use mathlib.Core.List.{List}
+use mathlib.Core.List.{List, ◌++◌}
 use Prim.Native.Nat.{ℕ, ◌+◌, ◌^◌, ◌≤◌, ◌<◌}
 use native.Mathlib.Nat.{add-zero}
 use native.Mathlib.Omega.{arith}
-use borrow.Author.Tests.{lt-ltb, ltb-false, eq-eqb, ne_eqb}
+use borrow.Author.Tests.{lt-ltb, le-ltb, ltb-false, eq-eqb, ne_eqb}
 use lib.Dec.{ltb}
-use lib.ListN.{length}
+use lib.ListN.{length, take, drop}
 use Rattle.std.proofs.Common.{Err}
+use Rattle.laws.specs.Lists.{written}
 use Rattle.record.specs.Answers.{buffer_left}
 use Rattle.record.specs.Refusals.{none, refused, refused_if}
 use Rattle.record.specs.Told.{number_of}
@@ -16,9 +17,10 @@ use Rattle.record.specs.declared.Refusal.{Refusal}
 use Rattle.record.specs.declared.grounds.Refused.{Refused}
 use Rattle.record.proofs.RefusalLaws.{none_gives_way}
 use Rattle.record.proofs.ToldLaws.{numbered, refuses_nothing}
-use Rattle.listing.specs.Sheet.{factors, lines_of, allan_counts, modified_counts, samples_of, sheet_refusal, refused_line, factors_of, record_text, totals_with, text_refusal, text_answer}
+use Rattle.listing.specs.Sheet.{factors, lines_of, allan_counts, modified_counts, samples_of, sheet_refusal, refused_line, factors_of, record_text, totals_with, total_line, text_refusal, text_answer, total_refusal}
 use Rattle.listing.specs.declared.Totals.{Totals}
 use Rattle.listing.specs.Told.{text_told}
+use Rattle.listing.proofs.AppendLaws.{Appended, all_appended}
 use Rattle.listing.proofs.SheetCases.{first_refuses}
 
 -- ---- a record's text
@@ -43,6 +45,12 @@ module _ (bytes : List ℕ) where
     unfolding totals_with factors_of
     totals_of_lines t = rw (eq-eqb (sheet_refusal bytes).number 0 nought)
 
+-- ---- text that is copied to the front of a buffer
+
+pub text_copied : {out before after : List ℕ} {end : ℕ} → Appended out before 0 after end → (buffer : List ℕ) {left : List ℕ} →
+    left ≡ take end after ++ drop (length (take end after)) buffer → left ≡ written out buffer
+text_copied x buffer e = e ∙ rw (all_appended x).1
+
 -- ---- 2, 6
 
 module _ (bytes : List ℕ) (t : Totals) (room : ℕ) where
@@ -54,6 +62,19 @@ module _ (bytes : List ℕ) (t : Totals) (room : ℕ) where
     pub no_room_for_text : room < length (record_text bytes) → text_refusal bytes t room ≡ refused 6 0
     unfolding text_refusal
     no_room_for_text h = rw (small, lt-ltb room (length (record_text bytes)) h)
+
+    pub room_for_text : length (record_text bytes) ≤ room → text_refusal bytes t room ≡ none
+    unfolding text_refusal
+    room_for_text h = rw (small, le-ltb room (length (record_text bytes)) h)
+
+module _ (t : Totals) (room : ℕ) where
+  pub no_room_for_total : room < length (total_line t) → total_refusal t room ≡ refused 6 0
+  unfolding total_refusal
+  no_room_for_total h = rw (lt-ltb room (length (total_line t)) h)
+
+  pub room_for_total : length (total_line t) ≤ room → total_refusal t room ≡ none
+  unfolding total_refusal
+  room_for_total h = rw (le-ltb room (length (total_line t)) h)
 
 -- ---- what is written of a record, as it is told
 

@@ -9,7 +9,7 @@ ghost use Rattle.variances.specs.Told.{fraction_told, deviation_told};
 ghost use Rattle.noise.specs.Told.{noise_told};
 ghost use Rattle.listing.specs.Columns.{spaced, fraction_column, count_column, deviation_column, alpha_column};
 
-use crate::text::Text;
+use crate::text::{LINES, Text};
 use noise::Noise;
 use record::{Ground, Refused};
 use sums::Sum;
@@ -27,7 +27,7 @@ const NOUGHTS: Sum = Sum {
 };
 
 // The factor, the Allan variance, K and the Allan deviation.
-pub(crate) fn allan_columns(m: u64, sum: Result<Sum, Refused>, text: &mut Text)
+pub(crate) fn allan_columns(m: u64, sum: Result<Sum, Refused>, text: &mut Text<LINES>)
     requires { length text.old + 202 ≤ 4608 }
     ensures text_after { text.new ≡ text.old ++ spaced (decimal m ∷ fraction_column (allan_fraction_answer (value (sum_told sum).sum) m (sum_told sum).count) ∷ count_column (sum_told sum) ∷ deviation_column (allan_deviation_answer (value (sum_told sum).sum) m (sum_told sum).count) ∷ []) }
     ensures room { length text.new ≤ length text.old + 202 }
@@ -43,7 +43,7 @@ pub(crate) fn allan_columns(m: u64, sum: Result<Sum, Refused>, text: &mut Text)
 }
 
 // The time variance, C and the time deviation.
-pub(crate) fn time_columns(m: u64, sum: Result<Sum, Refused>, text: &mut Text)
+pub(crate) fn time_columns(m: u64, sum: Result<Sum, Refused>, text: &mut Text<LINES>)
     requires { length text.old + 162 ≤ 4608 }
     ensures text_after { text.new ≡ text.old ++ spaced (fraction_column (time_fraction_answer (value (sum_told sum).sum) m (sum_told sum).count) ∷ count_column (sum_told sum) ∷ deviation_column (time_deviation_answer (value (sum_told sum).sum) m (sum_told sum).count) ∷ []) }
     ensures room { length text.new ≤ length text.old + 162 }
@@ -66,7 +66,7 @@ pub(crate) fn counted(sum: Result<Sum, Refused>) -> Sum
 
 // Alpha, `-` where there are too few samples for it, and the end of the line.
 #[tactic(auto, unfolding(crate::specs::Columns::alpha_column, crate::specs::Columns::told_or))]
-pub(crate) fn alpha_column(noise: Result<Noise, Refused>, text: &mut Text)
+pub(crate) fn alpha_column(noise: Result<Noise, Refused>, text: &mut Text<LINES>)
     requires { length text.old + 41 ≤ 4608 }
     ensures text_after { text.new ≡ text.old ++ (alpha_column (noise_told noise) ++ (0x0A ∷ [])) }
     ensures room { length text.new ≤ length text.old + 41 }
@@ -83,7 +83,7 @@ fn figure_columns(
     variance: Result<Fraction, Refused>,
     sum: Result<Sum, Refused>,
     root: Result<u64, Refused>,
-    text: &mut Text,
+    text: &mut Text<LINES>,
 )
     requires { length text.old + 162 ≤ 4608 }
     ensures text_after { text.new ≡ text.old ++ spaced (fraction_column (fraction_told variance) ∷ count_column (sum_told sum) ∷ deviation_column (deviation_told root) ∷ []) }
@@ -96,7 +96,7 @@ fn figure_columns(
 
 // A fraction and a space.
 #[tactic(auto, unfolding(crate::specs::Columns::fraction_column, crate::specs::Columns::told_or))]
-fn fraction_column(variance: Result<Fraction, Refused>, text: &mut Text)
+fn fraction_column(variance: Result<Fraction, Refused>, text: &mut Text<LINES>)
     requires { length text.old + 80 ≤ 4608 }
     ensures text_after { text.new ≡ text.old ++ (fraction_column (fraction_told variance) ++ (0x20 ∷ [])) }
     ensures room { length text.new ≤ length text.old + 80 }
@@ -112,7 +112,7 @@ fn fraction_column(variance: Result<Fraction, Refused>, text: &mut Text)
 
 // The count of a sum and a space.
 #[tactic(auto, unfolding(crate::specs::Columns::count_column, crate::specs::Columns::told_or))]
-fn count_column(sum: Result<Sum, Refused>, text: &mut Text)
+fn count_column(sum: Result<Sum, Refused>, text: &mut Text<LINES>)
     requires { length text.old + 41 ≤ 4608 }
     ensures text_after { text.new ≡ text.old ++ (count_column (sum_told sum) ++ (0x20 ∷ [])) }
     ensures room { length text.new ≤ length text.old + 41 }
@@ -125,7 +125,7 @@ fn count_column(sum: Result<Sum, Refused>, text: &mut Text)
 
 // A deviation and a space.
 #[tactic(auto, unfolding(crate::specs::Columns::deviation_column, crate::specs::Columns::told_or))]
-fn deviation_column(root: Result<u64, Refused>, text: &mut Text)
+fn deviation_column(root: Result<u64, Refused>, text: &mut Text<LINES>)
     requires { length text.old + 41 ≤ 4608 }
     ensures text_after { text.new ≡ text.old ++ (deviation_column (deviation_told root) ++ (0x20 ∷ [])) }
     ensures room { length text.new ≤ length text.old + 41 }
@@ -137,7 +137,7 @@ fn deviation_column(root: Result<u64, Refused>, text: &mut Text)
 }
 
 // What stands in the place of a figure that is refused.
-fn refused_column(refused: Refused, after: u8, text: &mut Text)
+fn refused_column(refused: Refused, after: u8, text: &mut Text<LINES>)
     requires { length text.old + 41 ≤ 4608 }
     ensures text_after { text.new ≡ text.old ++ (0x72 ∷ (decimal (number_of refused.why) ++ (after ∷ []))) }
     ensures room { length text.new ≤ length text.old + 41 }

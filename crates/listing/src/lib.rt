@@ -15,7 +15,7 @@ ghost use Rattle.record.specs.Told.{told, count_told};
 ghost use Rattle.listing.specs.Sheet.{record_text, total_line, text_refusal, text_answer, total_refusal};
 ghost use Rattle.listing.specs.Told.{text_told};
 
-use crate::text::Text;
+use crate::text::{CLOSING, LINES, Text};
 use record::{CountAnswer, Ground, Refused};
 
 // K and C added up over the lines of a sheet. All noughts at first.
@@ -53,7 +53,7 @@ pub fn record(bytes: &[u8], totals: Totals, text: &mut [u8]) -> Result<Written, 
     ensures text_after { text.new ≡ buffer_left (text_refusal bytes.now totals (length text.old)) (record_text bytes.now) text.old }
 {
     check_totals(totals)?;
-    let mut lines = Text::new();
+    let mut lines = Text::<LINES>::new();
     let after = lines::record_lines(bytes, totals, &mut lines);
     let length = lines.copy_to(text)?;
     Ok(Written {
@@ -68,7 +68,7 @@ pub fn total(totals: Totals, text: &mut [u8]) -> Result<u64, Refused>
     ensures value { count_told result ≡ count_answer (total_refusal totals (length text.old)) (length (total_line totals)) }
     ensures text_after { text.new ≡ buffer_left (total_refusal totals (length text.old)) (total_line totals) text.old }
 {
-    let mut line = Text::new();
+    let mut line = Text::<CLOSING>::new();
     lines::total_line(totals, &mut line);
     line.copy_to(text)
 }

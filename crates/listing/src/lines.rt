@@ -6,7 +6,7 @@ ghost use Rattle.listing.specs.Columns.{factor_line};
 ghost use Rattle.listing.specs.Sheet.{factors, lines_of, allan_counts, modified_counts, record_text, totals_with, refused_line, total_line};
 
 use crate::columns::{SPACE, allan_columns, alpha_column, counted, time_columns};
-use crate::text::Text;
+use crate::text::{CLOSING, LINES, Text};
 use crate::{Totals, samples};
 use record::Refused;
 
@@ -14,7 +14,7 @@ use record::Refused;
 const FACTORS: usize = 11;
 
 // Writes the lines of a record file, or the line of its refusal, and gives the totals with it.
-pub(crate) fn record_lines(bytes: &[u8], totals: Totals, text: &mut Text) -> Totals
+pub(crate) fn record_lines(bytes: &[u8], totals: Totals, text: &mut Text<LINES>) -> Totals
     requires { (text.old ≡ []) × (totals.k ≤ 2 ^ 63) × (totals.c ≤ 2 ^ 63) }
     ensures text_after { text.new ≡ record_text bytes.now }
     ensures totals_value { result ≡ totals_with totals bytes.now }
@@ -30,7 +30,7 @@ pub(crate) fn record_lines(bytes: &[u8], totals: Totals, text: &mut Text) -> Tot
 }
 
 // Writes the lines of all factors of a record, and gives the totals with them.
-fn factor_lines(samples: &[i64], mut totals: Totals, text: &mut Text) -> Totals
+fn factor_lines(samples: &[i64], mut totals: Totals, text: &mut Text<LINES>) -> Totals
     requires { (text.old ≡ []) × (length samples.now ≤ 4096) × (totals.k ≤ 2 ^ 63) × (totals.c ≤ 2 ^ 63) }
     ensures text_after { text.new ≡ lines_of samples.now (factors (length samples.now)) }
     ensures totals_value { result ≡ record { k = totals.k + allan_counts samples.now (factors (length samples.now)); c = totals.c + modified_counts samples.now (factors (length samples.now)) } }
@@ -47,7 +47,7 @@ fn factor_lines(samples: &[i64], mut totals: Totals, text: &mut Text) -> Totals
 
 // Writes the line of a factor behind those before it, and gives the totals with it.
 #[tactic(auto, using(crate::proofs::FactorLaws::allan_count_within, crate::proofs::FactorLaws::modified_count_within), unfolding(crate::specs::Columns::factor_line, crate::specs::Columns::line))]
-fn factor_line(samples: &[i64], m: u64, totals: Totals, text: &mut Text) -> Totals
+fn factor_line(samples: &[i64], m: u64, totals: Totals, text: &mut Text<LINES>) -> Totals
     requires { (length text.old + 405 ≤ 4608) × (length samples.now ≤ 4096) × (totals.k ≤ 2 ^ 63 + 65536) × (totals.c ≤ 2 ^ 63 + 65536) }
     ensures text_after { text.new ≡ text.old ++ factor_line samples.now m }
     ensures room { length text.new ≤ length text.old + 405 }
@@ -66,7 +66,7 @@ fn factor_line(samples: &[i64], m: u64, totals: Totals, text: &mut Text) -> Tota
 
 // Writes the line of a record that is refused as a whole.
 #[tactic(auto, unfolding(crate::specs::Sheet::refused_line, crate::specs::Columns::line))]
-fn refused_line(refused: Refused, text: &mut Text)
+fn refused_line(refused: Refused, text: &mut Text<LINES>)
     requires { text.old ≡ [] }
     ensures { text.new ≡ refused_line (record { number = number_of refused.why; place = refused.place }) }
 {
@@ -78,7 +78,7 @@ fn refused_line(refused: Refused, text: &mut Text)
 
 // Writes the closing line.
 #[tactic(auto, unfolding(crate::specs::Sheet::total_line, crate::specs::Columns::line))]
-pub(crate) fn total_line(totals: Totals, text: &mut Text)
+pub(crate) fn total_line(totals: Totals, text: &mut Text<CLOSING>)
     requires { text.old ≡ [] }
     ensures { text.new ≡ total_line totals }
 {

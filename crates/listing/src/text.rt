@@ -1,4 +1,4 @@
-// A text that is written from its front on, in an array that has room for every text of a sheet.
+// A text that is written from its front on, in an array of so many bytes.
 ghost use Rattle.std.specs.Prelude.{◌≡◌, [], ◌∷◌, ◌++◌, ◌+◌, ◌≤◌, length, take, ltb, List, ℕ};
 ghost use Rattle.record.specs.Refusals.{refused_if};
 ghost use Rattle.record.specs.Answers.{count_answer, buffer_left};
@@ -11,27 +11,29 @@ use record::{Ground, Refused};
 use std::marker::Model;
 use wide::Wide;
 
-// Every text of a record has fewer bytes, eleven lines of at most 405, and so has the closing line.
-const ROOM: usize = 4608;
+// Every text of a record has fewer bytes: eleven lines of at most 405.
+pub(crate) const LINES: usize = 4608;
+// The closing line has at most so many: two numbers of one word, with what stands before and behind each.
+pub(crate) const CLOSING: usize = 86;
 
 // What was written so far, in contracts a list of bytes.
 #[derive(Drop)]
-pub(crate) struct Text {
+pub(crate) struct Text<const ROOM: usize> {
     bytes: [u8; ROOM],
     end: usize,
 }
 
-impl Model for Text {
+impl<const ROOM: usize> Model for Text<ROOM> {
     ghost Value = { List ℕ };
 
     ghost view = { λ t. take t.end t.bytes };
 
-    ghost invariant = { λ t. t.end ≤ 4608 };
+    ghost invariant = { λ t. t.end ≤ ROOM };
 }
 
-impl Text {
+impl<const ROOM: usize> Text<ROOM> {
     // A text without a byte.
-    pub(crate) fn new() -> Text
+    pub(crate) fn new() -> Text<ROOM>
         ensures { result ≡ [] }
     {
         Text {
@@ -45,7 +47,8 @@ impl Text {
         ensures value { count_told result ≡ count_answer (refused_if (ltb (length buffer.old) (length self.now)) 6 0) (length self.now) }
         ensures buffer_after { buffer.new ≡ buffer_left (refused_if (ltb (length buffer.old) (length self.now)) 6 0) self.now buffer.old }
     {
-        let all = &self.bytes[..self.end];
+        let bytes = &self.bytes[..];
+        let all = &bytes[..self.end];
         if buffer.len() < all.len() {
             return Err(Ground::NoRoom.at(0));
         }
@@ -55,17 +58,19 @@ impl Text {
 
     // Writes bytes.
     pub(crate) fn put(&mut self, bytes: &[u8])
-        requires { length self.old + length bytes.now ≤ 4608 }
+        requires { length self.old + length bytes.now ≤ ROOM }
         ensures { self.new ≡ self.old ++ bytes.now }
     {
-        let end = self.end + bytes.len();
-        self.bytes[self.end..end].copy_from_slice(bytes);
+        let from = self.end;
+        let end = from + bytes.len();
+        let all = &mut self.bytes[..];
+        all[from..end].copy_from_slice(bytes);
         self.end = end;
     }
 
     // Writes a number of one word and the byte after it.
     pub(crate) fn number(&mut self, n: u64, after: u8)
-        requires { length self.old + 40 ≤ 4608 }
+        requires { length self.old + 40 ≤ ROOM }
         ensures text_after { self.new ≡ self.old ++ (decimal n ++ (after ∷ [])) }
         ensures room { length self.new ≤ length self.old + 40 }
     {
@@ -75,7 +80,7 @@ impl Text {
     // Writes a signed number and the byte after it.
     #[tactic(auto, unfolding(crate::specs::Columns::signed_decimal))]
     pub(crate) fn signed(&mut self, n: i64, after: u8)
-        requires { length self.old + 41 ≤ 4608 }
+        requires { length self.old + 41 ≤ ROOM }
         ensures text_after { self.new ≡ self.old ++ (signed_decimal n ++ (after ∷ [])) }
         ensures room { length self.new ≤ length self.old + 41 }
     {
@@ -87,7 +92,7 @@ impl Text {
 
     // Writes a number of two halves and the byte after it.
     pub(crate) fn wide(&mut self, n: Wide, after: u8)
-        requires { length self.old + 40 ≤ 4608 }
+        requires { length self.old + 40 ≤ ROOM }
         ensures text_after { self.new ≡ self.old ++ (decimal (value n) ++ (after ∷ [])) }
         ensures room { length self.new ≤ length self.old + 40 }
     {

@@ -1,5 +1,5 @@
 -- The cases of salvage's refusals in their order, what is known where nothing is refused, and the two cases of the call.
-use Rattle.std.proofs.Common.{◌≡◌, ℕ, ◌-◌, ◌≤◌, true, not, ltb, List, length, ℤ, Ok, Err, sym, ap, ◌∙◌, arith, ltb-false, le-ltb, ne_eqb}
+use Rattle.std.proofs.Common.{◌≡◌, ℕ, ◌-◌, ◌≤◌, ◌<◌, true, false, not, ltb, List, length, ℤ, Ok, Err, sym, ap, ◌∙◌, arith, ltb-false, lt-ltb, le-ltb, ne_eqb}
 use borrow.Author.Tests.{not-false}
 use Rattle.record.specs.Refusals.{none, refused, refused_if, ◌then◌, in_range}
 use Rattle.record.specs.Told.{number_of}
@@ -34,6 +34,13 @@ module _ (bytes : List ℕ) (room : ℕ) where
     after_header : salvage_refusal bytes room ≡ (refused_if (ltb room (length (salvaged_file bytes))) 6 0 then refused_if (not (in_range (start_of bytes))) 3 0)
     unfolding salvage_refusal
     after_header = none_gives_way _ _ header
+
+    pub no_room_for_salvaged : room < length (salvaged_file bytes) → salvage_refusal bytes room ≡ refused 6 0
+    no_room_for_salvaged h = after_header ∙ rw (lt-ltb room (length (salvaged_file bytes)) h)
+
+    module _ (enough : length (salvaged_file bytes) ≤ room) where
+      pub start_outside : in_range (start_of bytes) ≡ false → salvage_refusal bytes room ≡ refused 3 0
+      start_outside far = after_header ∙ rw (le-ltb room (length (salvaged_file bytes)) enough, far)
 
     -- of the new file, by what is left over of the input, and the start
     pub new_refusal : head_length bytes ≤ length bytes → {left : ℕ} {start : ℤ} → left ≡ length bytes - length (salvaged_file bytes) → start ≡ start_of bytes →

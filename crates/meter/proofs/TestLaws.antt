@@ -5,7 +5,7 @@ use mathlib.Core.List.{List}
 use Prim.Native.Nat.{ℕ, ◌-◌, ◌*◌, ◌%◌, ◌^◌, ◌≤◌, ◌<◌}
 use native.Mathlib.Nat.{mod-lt}
 use native.Mathlib.Omega.{arith}
-use borrow.Author.Tests.{ltb-true, leb-true, le-leb, lt-leb, eq-eqb, ne_eqb, not-false, eqb-false}
+use borrow.Author.Tests.{ltb-true, leb-true, lt-ltb, le-ltb, le-leb, lt-leb, eq-eqb, ne_eqb, not-false, eqb-false}
 use lib.Dec.{leb, ltb, eqb}
 use lib.IntN.{ℤ, pos, nat_abs}
 use lib.Signed.{mag, lt_z, le_z}
@@ -66,6 +66,26 @@ pub record Together (x : Meter) : Type 0 where
 module _ (x : Meter) where
   abbrev halves_below : Bool
   halves_below = ltb x.a.hi (2 ^ 62) && ltb x.b.hi (2 ^ 62)
+
+  pub high_of_a_fails : 2 ^ 62 ≤ x.a.hi → halves_below ≡ false
+  high_of_a_fails h = simp (le-ltb x.a.hi (2 ^ 62) h)
+
+  pub high_of_b_decides : x.a.hi < 2 ^ 62 → halves_below ≡ ltb x.b.hi (2 ^ 62)
+  high_of_b_decides h = simp (lt-ltb x.a.hi (2 ^ 62) h)
+
+  -- the counts, in the order of the code
+  pub stretch_fails : x.n < x.stretch → counts_fit x ≡ false
+  unfolding counts_fit
+  stretch_fails h = simp (lt-leb x.stretch x.n h)
+
+  module _ (stretch : x.stretch ≤ x.n) where
+    pub k_fails : x.n < x.k → counts_fit x ≡ false
+    unfolding counts_fit
+    k_fails h = simp (le-leb x.stretch x.n stretch, lt-leb x.k x.n h)
+
+    pub c_decides : x.k ≤ x.n → counts_fit x ≡ leb x.c x.n
+    unfolding counts_fit
+    c_decides h = simp (le-leb x.stretch x.n stretch, le-leb x.k x.n h)
 
   pub factor_nought_fails : x.m < 1 → holds_together x ≡ false
   unfolding holds_together factor_fits

@@ -13,11 +13,15 @@ use Rattle.laws.specs.Greatest.{Greatest, greatest}
 use Rattle.laws.proofs.GreatestLaws.{one_greatest}
 use Rattle.laws.proofs.Halves.{product_below}
 use Rattle.laws.proofs.Tests.{choice_true, choice_false, tests_agree}
-use Rattle.wide.specs.Wide.{square_root}
-use Rattle.wide.proofs.Roots.{square_root_is_greatest, root_is}
+use Rattle.wide.specs.Wide.{value, halves, division_of, square_root}
+use Rattle.wide.specs.declared.Wide.{Wide}
+use Rattle.wide.specs.declared.Division.{Division}
+use Rattle.wide.proofs.WideLaws.{value_of_halves}
+use Rattle.wide.proofs.Divisions.{quotient_given}
+use Rattle.wide.proofs.Roots.{square_root_is_greatest}
 use Rattle.record.specs.Refusals.{none, refused, refused_if, ◌then◌}
 use Rattle.record.specs.declared.Refusal.{Refusal}
-use Rattle.std.proofs.Common.{Err}
+use Rattle.std.proofs.Common.{Some, Err}
 use Rattle.record.specs.Told.{number_of}
 use Rattle.record.specs.declared.grounds.Refused.{Refused}
 use Rattle.record.proofs.ToldLaws.{refuses, refuses_nothing}
@@ -125,10 +129,14 @@ module _ (w m : ℕ) (some : 1 ≤ m) where
       subst (λ (test : ℕ → Bool). Greatest test (greatest 64 test)) (λ i h. tests_are_one h i)
       (square_root_is_greatest (w * w / m) (lt_of_le_of_lt (div-le_self (w * w) m) (product_below (2 ^ 64) w w below below)))
 
-  -- as the code computes it
-  pub half_of_words : {h : ℕ} → w < 2 ^ 64 → h * h ≤ w * w / m → w * w / m < (h + 1) * (h + 1) → h ≡ greatest 64 (λ h. leb (h * h * m) (w * w))
-  half_of_words {h} below under over =
-      root_is (w * w / m) h (lt_of_le_of_lt (div-le_self (w * w) m) (product_below (2 ^ 64) w w below below)) under over ∙ root_is_half
+  -- as the words compute it
+  pub half_of_words :
+      {p : Wide} {d : Division} {h : ℕ} → p ≡ halves (w * w) → division_of (value p) m ≡ Some d → h ≡ square_root (value d.quotient) →
+      h ≡ greatest 64 (λ h. leb (h * h * m) (w * w))
+  half_of_words p-is d-is h-is =
+      let number : value (halves (w * w)) ≡ w * w = value_of_halves (w * w) in
+      let divided = ap (λ (n : ℕ). division_of n m) (sym number) ∙ ap (λ (s : Wide). division_of (value s) m) (sym p-is) ∙ d-is in
+      h-is ∙ ap square_root (ap value (quotient_given (w * w) m some divided) ∙ value_of_halves (w * w / m)) ∙ root_is_half
 
   pub half_not_above : {h : ℕ} → Greatest (λ h. leb (h * h * m) (w * w)) h → h ≤ w
   half_not_above {h} is =

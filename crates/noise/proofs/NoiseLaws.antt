@@ -48,6 +48,37 @@ use Rattle.noise.specs.declared.NoiseAnswer.{NoiseAnswer}
 abbrev pub index_of : Noise → ℕ
 index_of t = nat_abs (pos 2 -ℤ alpha_of t)
 
+-- the type at a place
+unfoldable type_at : ℕ → Noise
+type_at zero = WhitePhase
+type_at (suc zero) = FlickerPhase
+type_at (suc (suc zero)) = WhiteFrequency
+type_at (suc (suc (suc zero))) = FlickerFrequency
+type_at (suc (suc (suc (suc i)))) = RandomWalkFrequency
+
+type_of_index : (t : Noise) → type_at (index_of t) ≡ t
+unfolding type_at alpha_of
+type_of_index WhitePhase = refl
+type_of_index FlickerPhase = refl
+type_of_index WhiteFrequency = refl
+type_of_index FlickerFrequency = refl
+type_of_index RandomWalkFrequency = refl
+
+-- each place has one type
+pub one_type : {t t' : Noise} {i : ℕ} → i ≡ index_of t → i ≡ index_of t' → t ≡ t'
+one_type {t} {t'} first second = sym (type_of_index t) ∙ ap type_at (sym first ∙ second) ∙ type_of_index t'
+
+pub index_within : (t : Noise) → index_of t < 5
+unfolding alpha_of
+index_within WhitePhase = omega arith
+index_within FlickerPhase = omega arith
+index_within WhiteFrequency = omega arith
+index_within FlickerFrequency = omega arith
+index_within RandomWalkFrequency = omega arith
+
+pub place_within : (t : Noise) {i : ℕ} → i ≡ index_of t → i ≤ 4
+place_within t is = omega (arith, index_within t)
+
 -- ---- the table of kappa
 
 abbrev pub kappas : List ℕ

@@ -94,7 +94,8 @@ fn half_of(width: u64, intervals: u64) -> u64
     requires { 1 ≤ intervals }
     ensures { result ≡ greatest 64 (λ k. leb (k * k * intervals) (width * width)) }
 {
-    (width as u128 * width as u128 / intervals as u128).isqrt() as u64
+    let square = wide::product(width, width);
+    wide::root(wide::divided(square, intervals).unwrap().quotient)
 }
 
 // The row drawn from r - h, r and r + h; h is below r, so that r - h is no wrap and at least 1.

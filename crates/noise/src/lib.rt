@@ -4,7 +4,7 @@
 
 pub mod bars;
 
-ghost use Rattle.std.specs.Prelude.{◌≡◌};
+ghost use Rattle.std.specs.Prelude.{◌≡◌, pos, nat_abs, ◌-ℤ◌};
 ghost use Rattle.record.specs.Refusals.{none, record_refusal};
 ghost use Rattle.sums.specs.Answers.{modified_demand};
 ghost use Rattle.record.specs.Told.{told};
@@ -25,15 +25,24 @@ pub enum Noise {
 
 impl Noise {
     // Kappa in hundredths.
-    #[tactic(auto, unfolding(crate::specs::Noise::kappa_of))]
     pub(crate) fn kappa(self) -> u64
         ensures { result ≡ kappa_of self }
     {
+        let at = self.index();
+        KAPPA[at]
+    }
+
+    // The place in the table, whose alpha falls from 2 by one a row.
+    #[tactic(auto, unfolding(crate::specs::Noise::alpha_of))]
+    fn index(self) -> usize
+        ensures { result ≡ nat_abs (pos 2 -ℤ alpha_of self) }
+    {
         match self {
-            Noise::WhitePhase | Noise::FlickerPhase => 99,
-            Noise::WhiteFrequency => 87,
-            Noise::FlickerFrequency => 77,
-            Noise::RandomWalkFrequency => 75,
+            Noise::WhitePhase => 0,
+            Noise::FlickerPhase => 1,
+            Noise::WhiteFrequency => 2,
+            Noise::FlickerFrequency => 3,
+            Noise::RandomWalkFrequency => 4,
         }
     }
 }
@@ -85,6 +94,8 @@ pub struct NoiseAnswer {
     pub noise: Noise,
 }
 
+// Kappa in hundredths, by type.
+const KAPPA: [u64; 5] = [99, 99, 87, 77, 75];
 // The types but the last, each with its bound in 4096ths of r2 / r1.
 const BOUNDS: [(Noise, u64); 4] = [
     (Noise::WhitePhase, 3444),
@@ -178,7 +189,7 @@ fn noise_of(r1: u64, r2: u64) -> Noise
 {
     let ratio = wide::product(4096, r2);
     for (noise, bound) in BOUNDS {
-        if ratio <= wide::product(r1, bound) {
+        if wide::at_most(ratio, wide::product(r1, bound)) {
             return noise;
         }
     }

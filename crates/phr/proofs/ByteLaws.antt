@@ -88,3 +88,8 @@ from_low_first_back (b ∷ bytes) all =
     let low : (b + 256 * from_low_first bytes) % 256 ≡ b = omega (arith, all 0) in
     let rest : (b + 256 * from_low_first bytes) / 256 ≡ from_low_first bytes = omega (arith, all 0) in
     rw (low, rest, from_low_first_back bytes (λ i. all (suc i)))
+
+pub from_low_first_append : (xs ys : List ℕ) → from_low_first (xs ++ ys) ≡ from_low_first xs + 256 ^ length xs * from_low_first ys
+unfolding from_low_first
+from_low_first_append [] ys = omega arith
+from_low_first_append (x ∷ xs) ys = rw (pow-suc, from_low_first_append xs ys) (omega arith)

@@ -100,6 +100,12 @@ module _ (kind : ℕ) (start : ℤ) (values : List ℤ) (room : ℕ) where
     unfolding write_record_refusal
     start_allowed e = simp (le-leb kind 1 known, e)
 
+  pub writable_from_none : WritableFrom kind start values room → write_record_refusal kind start values room ≡ none
+  writable_from_none w =
+      let held = w.writable in
+      start_allowed held.known w.fits_start
+      ∙ rw (room_for_file 16 kind (length values) room held.few held.enough, w.start_in_range) (in_range_none kind values held.in_range)
+
   pub unrefused_from : (write_record_refusal kind start values room).number ≡ 0 → WritableFrom kind start values room
   unfolding write_record_refusal
   unrefused_from e =

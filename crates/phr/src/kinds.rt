@@ -63,18 +63,11 @@ impl Kind {
     }
 
     // Whether a value lies in the kind's range.
+    #[tactic(auto, unfolding(crate::specs::File::value_in_range))]
     pub(crate) fn has(self, z: i64) -> bool
         ensures { result ≡ value_in_range (number_of_kind self) z }
     {
-        match self {
-            Kind::Phase => record::in_range(z),
-            Kind::Frequency => {
-                if z < -record::LARGEST_FREQUENCY {
-                    return false;
-                }
-                z <= record::LARGEST_FREQUENCY
-            }
-        }
+        z.unsigned_abs() <= self.end()
     }
 
     // Whether the kind can have a start.

@@ -1,9 +1,8 @@
 // The worked example of section IV: eight frequency values of one second each, in units of 10^-7, and their Allan variance.
 use crate::print::{Decimals, Verdict};
 use crate::rounding::rounded;
-use shown::Refusal;
+use shown::{Output, Refusal};
 use std::io;
-use std::io::Stdout;
 use sums::Sum;
 use variances::fractions::Fraction;
 use variances::{deviations, fractions};
@@ -24,7 +23,7 @@ const DEVIATION: u64 = 56;
 const UNITS: u64 = 1048576;
 
 // The lines of the example.
-pub(crate) fn figures(out: Stdout) -> io::Result<()> {
+pub(crate) fn figures(out: Output) -> io::Result<()> {
     let mut phases = [0i64; 9];
     match frequency::phases(0, &VALUES, &mut phases) {
         Ok(_) => of_phases(out, &phases),
@@ -33,7 +32,7 @@ pub(crate) fn figures(out: Stdout) -> io::Result<()> {
 }
 
 // The lines of the phases.
-fn of_phases(out: Stdout, phases: &[i64]) -> io::Result<()> {
+fn of_phases(out: Output, phases: &[i64]) -> io::Result<()> {
     squares(out, phases)?;
     match sums::allan(phases, 1) {
         Ok(sum) => whole(out, sum),
@@ -42,7 +41,7 @@ fn of_phases(out: Stdout, phases: &[i64]) -> io::Result<()> {
 }
 
 // The squares one by one: each is the Allan sum of three phases.
-fn squares(out: Stdout, phases: &[i64]) -> io::Result<()> {
+fn squares(out: Output, phases: &[i64]) -> io::Result<()> {
     for (three, printed) in phases.windows(3).zip(SQUARES) {
         square(out, three, printed)?;
     }
@@ -50,7 +49,7 @@ fn squares(out: Stdout, phases: &[i64]) -> io::Result<()> {
 }
 
 // One line: a first difference squared.
-fn square(out: Stdout, three: &[i64], printed: u64) -> io::Result<()> {
+fn square(out: Output, three: &[i64], printed: u64) -> io::Result<()> {
     let name = "first difference squared";
     match sums::allan(three, 1) {
         Ok(sum) => rounded_sum(out, name, sum.total.lo, printed),
@@ -59,7 +58,7 @@ fn square(out: Stdout, three: &[i64], printed: u64) -> io::Result<()> {
 }
 
 // The sum of the squares, their count, the variance and the deviation.
-fn whole(out: Stdout, sum: Sum) -> io::Result<()> {
+fn whole(out: Output, sum: Sum) -> io::Result<()> {
     let count = sum.count;
     rounded_sum(out, "sum", sum.total.lo, SUM)?;
     println!(out;
@@ -77,7 +76,7 @@ fn whole(out: Stdout, sum: Sum) -> io::Result<()> {
 }
 
 // One line: a sum in units of 10^-14, rounded.
-fn rounded_sum(out: Stdout, name: &str, sum: u64, printed: u64) -> io::Result<()> {
+fn rounded_sum(out: Output, name: &str, sum: u64, printed: u64) -> io::Result<()> {
     let ours = rounded(sum, 100);
     println!(out;
         "{name} {sum} in 10^-14, rounded {}e-10, printed {}e-10: {}",
@@ -89,7 +88,7 @@ fn rounded_sum(out: Stdout, name: &str, sum: u64, printed: u64) -> io::Result<()
 
 // One line: the variance. A half of a hundred is whole, so that the fraction's whole part is enough to round it. The denominator is never nought; that
 // is tested, not assumed.
-fn variance(out: Stdout, fraction: Fraction) -> io::Result<()> {
+fn variance(out: Output, fraction: Fraction) -> io::Result<()> {
     let numerator = fraction.numerator.lo;
     let denominator = fraction.denominator;
     let whole = numerator.checked_div(denominator).unwrap_or(0);
@@ -103,13 +102,13 @@ fn variance(out: Stdout, fraction: Fraction) -> io::Result<()> {
 }
 
 // Two lines: the deviation, rounded and cut off. The note cuts off: even the root of its rounded 3.2e-11 is nearer 5.7e-6.
-fn deviation(out: Stdout, units: u64) -> io::Result<()> {
+fn deviation(out: Output, units: u64) -> io::Result<()> {
     one_deviation(out, units, "rounded", rounded(units, UNITS))?;
     one_deviation(out, units, "cut off", units / UNITS)
 }
 
 // One line: the deviation in fewer digits.
-fn one_deviation(out: Stdout, units: u64, how: &str, ours: u64) -> io::Result<()> {
+fn one_deviation(out: Output, units: u64, how: &str, ours: u64) -> io::Result<()> {
     println!(out;
         "deviation {units}/{UNITS} in 10^-7, {how} {}e-6, printed {}e-6: {}",
         Decimals::<1>(ours),

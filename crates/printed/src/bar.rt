@@ -3,9 +3,8 @@ use crate::print::{Decimals, Verdict};
 use crate::rounding::rounded;
 use noise::bars::Bar;
 use noise::{Noise, bars};
-use shown::Refusal;
+use shown::{Output, Refusal};
 use std::io;
-use std::io::Stdout;
 
 // The deviation: a million units are 10^-12.
 const UNIT: u64 = 1000000;
@@ -17,7 +16,7 @@ const RATIO: u64 = 77;
 const HALF: u64 = 8;
 
 // The lines of the example.
-pub(crate) fn figures(out: Stdout) -> io::Result<()> {
+pub(crate) fn figures(out: Output) -> io::Result<()> {
     match bars::row(UNIT, Noise::FlickerFrequency, INTERVALS) {
         Ok(bar) => halves(out, bar),
         Err(refused) => println!(out; "bar {}", Refusal(refused)),
@@ -25,13 +24,13 @@ pub(crate) fn figures(out: Stdout) -> io::Result<()> {
 }
 
 // The lines of both halves.
-fn halves(out: Stdout, bar: Bar) -> io::Result<()> {
+fn halves(out: Output, bar: Bar) -> io::Result<()> {
     half(out, "above", units(bar.high - bar.mid))?;
     half(out, "below", units(bar.mid - bar.low))
 }
 
 // Two lines: one half of the bar, as a part of the deviation.
-fn half(out: Stdout, side: &str, h: u64) -> io::Result<()> {
+fn half(out: Output, side: &str, h: u64) -> io::Result<()> {
     let ratio = rounded(h, 1000);
     println!(out;
         "half of the bar {side} {h}/{UNIT}, rounded {}, printed {}: {}",

@@ -9,16 +9,16 @@ mod bar;
 mod print;
 mod rounding;
 
+use shown::Output;
 use std::io;
-use std::io::Stdout;
 
-// A write that fails ends the lines and is not told.
+// A write that fails is not told, and the next is tried.
 fn main(rt: HostRuntime) {
-    let _ = figures(rt.stdout());
+    let _ = figures(Output(rt.stdout()));
 }
 
 // All lines.
-fn figures(out: Stdout) -> io::Result<()> {
+fn figures(out: Output) -> io::Result<()> {
     allan::figures(out)?;
     bar::figures(out)
 }

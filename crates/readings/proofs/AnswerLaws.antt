@@ -1,7 +1,7 @@
--- The two cases of an answer to float readings: refused, and given.
+-- The two cases of an answer to float readings: refused, with the buffer as it came, and given.
 use mathlib.Core.Path.{◌≡◌, refl, sym, ap, ◌∙◌}
 use mathlib.Core.Bool.{Bool, true, false}
-use mathlib.Core.List.{List}
+use mathlib.Core.List.{List, []}
 use Prim.Native.Nat.{ℕ, ◌*◌, ◌≤◌, ◌<◌}
 use native.Mathlib.Omega.{arith}
 use borrow.Author.Tests.{eq-eqb, ne_eqb, leb-true, leb-false}
@@ -133,3 +133,11 @@ module _ (m : ℕ) (xs : List Float) (room : ℕ) where
   call_refused buffer is some noughts =
       let numbered = ne_eqb (float_refusal m xs room).number 0 (rw is at some) in
       (noughts ∙ ap no_sums is ∙ sym (choice_false _ _ numbered), sym (choice_false _ _ numbered))
+
+  -- the same, what is returned and what is left in the buffer each by itself
+  pub value_refused : {refusal : Refusal} {answer : FloatSums} → refusal ≡ float_refusal m xs room → (refusal.number ≡ 0 → ⊥) → answer ≡ no_sums refusal → answer ≡ float_answer m xs room
+  value_refused is some noughts = (call_refused [] is some noughts).0
+
+  pub left_refused : {refusal : Refusal} (buffer : List ℤ) → refusal ≡ float_refusal m xs room → (refusal.number ≡ 0 → ⊥) →
+      buffer ≡ buffer_left (float_refusal m xs room) (samples_of xs) buffer
+  left_refused {refusal} buffer is some = (call_refused {refusal = refusal} buffer is some refl).1

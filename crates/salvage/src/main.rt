@@ -12,7 +12,7 @@ use files::NAME;
 use mending::Kept;
 use std::fs::File;
 use std::io;
-use std::io::Read;
+use std::io::{ErrorKind, Read};
 
 // The longest sound file, of version 2, has so many bytes.
 const LONGEST: usize = 262160;
@@ -53,12 +53,15 @@ fn whole(rt: &HostRuntime, path: &[u8], mut file: File) {
     }
 }
 
-// How many bytes were read, and how many came past them.
+// How many bytes were read, and how many came past them, unless the reading was interrupted: then more came where it had stopped short.
 fn read(file: &mut File, bytes: &mut [u8]) -> io::Result<(usize, u64)>
     ensures { IfOk result (λ counts. counts.0 ≤ length bytes.new) }
 {
-    let count = files::read(file, bytes)?;
-    let past = if count < bytes.len() { 0 } else { rest(file)? };
+    let count = files::filled(file, bytes);
+    let past = rest(file)?;
+    if count < bytes.len() && 0 < past {
+        return Err(io::Error::from(ErrorKind::Interrupted));
+    }
     Ok((count, past))
 }
 
@@ -98,6 +101,6 @@ fn written(rt: &HostRuntime, buffer: &[u8], length: usize, left_over: u64) -> io
     let end = length.checked_sub(left_over as usize);
     match end.and_then(|end| buffer.get(..end)) {
         Some(file) => rt.stdout().write_all(file),
-        None => Err(io::Error::from(io::ErrorKind::WriteZero)),
+        None => Err(io::Error::from(ErrorKind::WriteZero)),
     }
 }

@@ -1,7 +1,8 @@
-// What the program says on standard error.
-use files::Reason;
+// What the program says on standard error, in pieces.
+use files::{Pieces, Why};
 use mending::Kept;
 use record::Refused;
+use std::fmt::Write;
 use std::io;
 
 // What was kept of a file, and how many of its bytes were left over, those past the longest file among them.
@@ -12,7 +13,9 @@ pub(crate) fn kept(rt: &HostRuntime, kept: Kept, past: u64) {
     } else {
         ""
     };
-    let _ = eprintln!(rt;
+    let mut err = Pieces(rt.stderr());
+    let _ = writeln!(
+        err,
         "kept {} of {} values, {left_over} bytes left over{met}",
         kept.new_count, kept.old_count
     );
@@ -21,17 +24,14 @@ pub(crate) fn kept(rt: &HostRuntime, kept: Kept, past: u64) {
 // A refusal: its number, the same in words, and its place.
 pub(crate) fn refused(rt: &HostRuntime, refused: Refused) {
     let Refused { why, place } = refused;
-    let _ = eprintln!(rt; "refused {}, {why}, at place {place}", u64::from(why));
+    let mut err = Pieces(rt.stderr());
+    let _ = writeln!(err, "refused {}, {why}, at place {place}", u64::from(why));
 }
 
-// What the system could not do, and why.
+// What the system could not do, and why. A file's name need not be text.
 pub(crate) fn failed(rt: &HostRuntime, what: &[u8], error: io::Error) {
-    let _ = told(rt, what, error);
-}
-
-// The same, in pieces, since a file's name need not be text.
-fn told(rt: &HostRuntime, what: &[u8], error: io::Error) -> io::Result<()> {
-    eprint!(rt; "salvage: ")?;
-    rt.stderr().write_all(what)?;
-    eprintln!(rt; ": {}", Reason(error))
+    let mut err = Pieces(rt.stderr());
+    let _ = write!(err, "salvage: ");
+    let _ = rt.stderr().write_all(what);
+    let _ = write!(err, "{}", Why(error));
 }

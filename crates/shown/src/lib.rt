@@ -1,12 +1,13 @@
-// How the programs of figures show what the library answers: numbers after spaces, halves, sums with their counts, and refusals; and the numbers of
-// their scattered records.
+// How the programs of figures show what the library answers: numbers after spaces, halves, sums with their counts, and refusals; where they print it;
+// and the numbers of their scattered records.
 
 #![tactic(auto)]
 
-ghost use Rattle.std.specs.Prelude.{◌≡◌, ◌+◌, ◌*◌, ◌%◌, ◌^◌, pos, ◌-ℤ◌};
+ghost use Rattle.std.specs.Prelude.{◌≡◌, ◌+◌, ◌*◌, ◌%◌, ◌^◌, pos, ◌-ℤ◌, IsOk};
 
 use record::{Ground, Refused};
-use std::fmt;
+use std::io::Stdout;
+use std::{fmt, io};
 use wide::Wide;
 
 // Signed numbers, each after a space.
@@ -28,6 +29,33 @@ pub struct OnePart(pub Result<sums::Sum, Ground>);
 // A refusal: its number, then its place.
 #[derive(Clone, Copy)]
 pub struct Refusal(pub Refused);
+
+// The standard output. A write that fails is not told, and the next is tried.
+#[derive(Clone, Copy, Debug)]
+pub struct Output(pub Stdout);
+
+impl Print for Output {
+    fn print<D: fmt::Display + Drop>(&self, value: D) -> io::Result<()>
+        ensures ok { IsOk result }
+    {
+        let _ = self.0.print(value);
+        Ok(())
+    }
+
+    fn println<D: fmt::Display + Drop>(&self, value: D) -> io::Result<()>
+        ensures ok { IsOk result }
+    {
+        let _ = self.0.println(value);
+        Ok(())
+    }
+
+    fn write_all(&self, bytes: &[u8]) -> io::Result<()>
+        ensures ok { IsOk result }
+    {
+        let _ = self.0.write_all(bytes);
+        Ok(())
+    }
+}
 
 // A sum that there is not is not due.
 impl From<Option<sums::Sum>> for OnePart {

@@ -46,9 +46,10 @@ fn lowest(sum: Wide, d: u64) -> Fraction
     requires { 0 < d }
     ensures { fraction_told (Ok result) ≡ fraction_answer none (value sum) d }
 {
-    let sum = u128::from(sum);
-    let divisor = gcd(d, (sum % d as u128) as u64);
-    let numerator = Wide::from(sum / divisor as u128);
+    let first = wide::divided(sum, d).unwrap();
+    let divisor = gcd(d, first.remainder);
+    let reduced = wide::divided(sum, divisor).unwrap();
+    let numerator = reduced.quotient;
     let denominator = d / divisor;
     Fraction {
         numerator,

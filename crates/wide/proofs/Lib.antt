@@ -1,4 +1,5 @@
 pub mod WideLaws
 pub mod ThreeWordLaws
+pub mod Divisions
 pub mod Roots
 pub mod Unique

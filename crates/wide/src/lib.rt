@@ -3,6 +3,7 @@
 
 #![tactic(auto)]
 
+mod long_division;
 mod three_words;
 
 ghost use Rattle.std.specs.Prelude.{◌≡◌, ◌*◌, ◌%◌, ◌^◌, nat_le, unsigned_abs};
@@ -111,11 +112,13 @@ pub fn divided(a: Wide, d: u64) -> Option<Division>
     if d == 0 {
         return None;
     }
-    let n = u128::from(a);
-    let divisor = d as u128;
+    let low = long_division::low_word(a.hi % d, a.lo, d);
     Some(Division {
-        quotient: Wide::from(n / divisor),
-        remainder: (n % divisor) as u64,
+        quotient: Wide {
+            hi: a.hi / d,
+            lo: low.quotient,
+        },
+        remainder: low.remainder,
     })
 }
 

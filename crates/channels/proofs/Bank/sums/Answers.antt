@@ -1,9 +1,9 @@
 -- `channels::Bank::sums` meets its contract: the meter is the one that the bank holds.
-use Rattle.std.proofs.Common.{ap, ◌∙◌, arith}
+use Rattle.std.proofs.Common.{ap, ◌∙◌}
 use Rattle.std.proofs.lemmas.Result.{err_from_is_err_and}
 use Rattle.channels.specs.Shares.{meter_of}
 use Rattle.channels.specs.Answers.{bank_report_answer, channel_report_answer}
-use Rattle.channels.proofs.ChannelLaws.{report_off_channel, on_channel}
+use Rattle.channels.proofs.ChannelLaws.{report_off_channel}
 use Rattle.channels.proofs.Bank.sums.Goals as goal
 
 pub returns-in_err-on : goal.returns-in_err-on
@@ -13,7 +13,7 @@ returns-in_err-on c =
     rw (p.1, p.2) (report_off_channel _ _ _ c.in_err-on.ensures)
 
 pub returns : goal.returns
-unfolding bank_report_answer channel_report_answer
+unfolding bank_report_answer
 returns c =
     let held = c.meter.ensures ∙ ap (meter_of c.args.self) c.in_ok-on.ensures in
-    on_channel _ (omega (arith, c.in_ok-on.ensures)) (rw held at c.sums.ensures)
+    rw held at c.sums_on.ensures

@@ -17,10 +17,10 @@ returns-in_err-next c =
     let old = meter_of c.args.self c.args.channel in
     let from = c.from_residual-in_err-next in
     let p = err_from_is_err_and from.result from.ensures.1 in
-    rw (p.1, p.2) (bank_error c.args.self c.args.channel old _ (rw c.in_ok-on.ensures at (c.in_err-next.ensures old)))
+    rw (p.1, p.2) (bank_error c.args.self c.args.channel old _ (c.in_err-next.ensures old))
 
 pub returns : goal.returns
 unfolding bank_start_answer
 returns c =
     let old = meter_of c.args.self c.args.channel in
-    rw (c.with_meter.ensures, c.in_ok-on.ensures) (bank_given c.args.self c.args.channel _ (rw c.in_ok-on.ensures at (c.in_ok-next.ensures old)))
+    rw (c.with_meter.ensures, c.in_ok-on.ensures) (bank_given c.args.self c.args.channel _ (c.in_ok-next.ensures old))

@@ -21,7 +21,7 @@ pub returns-in_err-next : goal.returns-in_err-next
 unfolding bank_sample_answer bank_ring_left
 returns-in_err-next c =
     let held = c.meter.ensures ∙ ap (meter_of c.args.self) c.in_ok-on.ensures in
-    let told = rw (held, c.in_ok-on.ensures, to_z-of_z w64 c.args.x c.ranges.x) at c.in_err-next.ensures in
+    let told = rw (held, to_z-of_z w64 c.args.x c.ranges.x) at c.in_err-next.ensures in
     let from = c.from_residual-in_err-next in
     let p = err_from_is_err_and from.result from.ensures.1 in
     (rw (p.1, p.2) (bank_error c.args.self c.args.channel _ _ told.0), told.1)
@@ -30,5 +30,5 @@ pub returns : goal.returns
 unfolding bank_sample_answer bank_ring_left
 returns c =
     let held = c.meter.ensures ∙ ap (meter_of c.args.self) c.in_ok-on.ensures in
-    let told = rw (held, c.in_ok-on.ensures, to_z-of_z w64 c.args.x c.ranges.x) at c.in_ok-next.ensures in
+    let told = rw (held, to_z-of_z w64 c.args.x c.ranges.x) at c.in_ok-next.ensures in
     (rw (c.with_meter.ensures, c.in_ok-on.ensures) (bank_given c.args.self c.args.channel _ told.0), told.1)
