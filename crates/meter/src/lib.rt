@@ -127,10 +127,22 @@ impl Meter {
     }
 
     // A fresh meter at factor m in place of this one, as C is told it.
+    // Told here and not by the conversion, beside which a start takes half as long again.
     pub fn start(self, m: u64, ring: &[i64]) -> MeterAnswer
         ensures { result ≡ start_answer self m ring.now }
     {
-        MeterAnswer::from((Meter::new(m, ring), self))
+        match Meter::new(m, ring) {
+            Ok(meter) => MeterAnswer {
+                number: 0,
+                place: 0,
+                meter,
+            },
+            Err(refused) => MeterAnswer {
+                number: refused.why.into(),
+                place: refused.place,
+                meter: self,
+            },
+        }
     }
 
     // The meter with one sample more, as C is told it.

@@ -57,7 +57,11 @@ pub extern "C" fn plg_channel_sample(
     ensures { (result ≡ channel_sample_answer meter channel ring.old x) × (ring.new ≡ channel_ring_left meter channel ring.old x) }
 {
     if channels::LAST_CHANNEL < channel {
-        return MeterAnswer::from((Err(Ground::BadChannel.at(0)), meter));
+        return MeterAnswer {
+            number: Ground::BadChannel.into(),
+            place: 0,
+            meter,
+        };
     }
     // Not by channel_sample: beside it every plg_meter_sample takes a seventh longer, since the compiler then sets the meter's sample apart.
     let share = ring.len() / channels::CHANNELS;

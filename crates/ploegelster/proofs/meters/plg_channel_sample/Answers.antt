@@ -1,5 +1,5 @@
 -- `ploegelster::meters::plg_channel_sample` meets its contract.
-use mathlib.Core.Path.{refl, ◌∙◌}
+use mathlib.Core.Path.{refl}
 use native.Mathlib.Omega.{arith}
 use Prim.Native.Nat.{◌+◌, ◌*◌, ◌/◌, ◌≤◌}
 use lib.ListN.{length}
@@ -16,10 +16,7 @@ lies c = part_inside c.args.channel (length c.args.ring.now) (omega (arith, c.if
 
 pub returns-then-channel-gt-LAST_CHANNEL : goal.returns-then-channel-gt-LAST_CHANNEL
 unfolding no_channel
-returns-then-channel-gt-LAST_CHANNEL c =
-    let refused = rw c.at.ensures at c.from.ensures in
-    let answers = sample_off_channel c.args.meter c.args.channel c.args.ring.now c.args.x c.if-channel-gt-LAST_CHANNEL.true in
-    (refused ∙ answers.0, answers.1)
+returns-then-channel-gt-LAST_CHANNEL c = rw c.into.ensures (sample_off_channel c.args.meter c.args.channel c.args.ring.now c.args.x c.if-channel-gt-LAST_CHANNEL.true)
 
 pub overflow_mul-from : goal.overflow_mul-from
 overflow_mul-from c = omega (arith, lies (goal.at.overflow_mul-from c).Else-channel-gt-LAST_CHANNEL, c.well_formed)
