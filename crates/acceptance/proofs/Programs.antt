@@ -1,6 +1,5 @@
 -- What the programs call. A function that gives a Result ends, as its result is told, as the contract of its entry allows of the same arguments, with the
 -- same content left in each lent buffer. So whatever Condition1 to Condition3, Grounds and Figures prove of every answer of an entry holds of these too.
-use Rattle.std.specs.Prelude.{ℕ}
 use Rattle.laws.specs.Single.{Allows, Always}
 use Rattle.record.proofs.check_range.Reads as record-check-range
 use Rattle.record.proofs.check_range.Kinds as record-check-range-kinds
